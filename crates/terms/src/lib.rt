@@ -1,0 +1,4 @@
+//! The words that every other crate speaks in: times, counts of requests, delays, cores and refusals.
+pub mod cores;
+pub mod numbers;
+pub mod refusal;
