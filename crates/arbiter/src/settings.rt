@@ -6,12 +6,7 @@ ghost use Rattle.arbiter.specs.Settings.{Within, Outside};
 use terms::refusal::Refusal;
 
 /// Refuses a setting outside `least..=most`, telling its position.
-pub(crate) fn in_range(
-    position: usize,
-    setting: u64,
-    least: u64,
-    most: u64,
-) -> Result<(), Refusal>
+pub(crate) fn in_range(position: usize, setting: u64, least: u64, most: u64) -> Result<(), Refusal>
     ensures { λ r. ⌜ Cases r (λ _. Within least most setting) (λ e. Outside position least most setting e) ⌝ }
 {
     if setting < least || setting > most {

@@ -1,5 +1,5 @@
 -- What is in range in the tables of a computer. Times are picoseconds. Assumes nothing.
-use mathlib.Core.List.{List, [], _∷_}
+use mathlib.Core.List.{List, []}
 use Prim.Native.Nat.{ℕ, _^_, _≤_, _<_}
 use lib.ListN.{length, getD}
 use Rattle.terms.specs.declared.numbers.Picos.{Picos}
@@ -22,8 +22,8 @@ no-task = record {
   partition = 0;
   period = no-time;
   deadline = no-time;
-  execution = no-time ∷ no-time ∷ no-time ∷ no-time ∷ [];
-  requests = no-requests ∷ no-requests ∷ no-requests ∷ no-requests ∷ [];
+  execution = [];
+  requests = [];
 }
 
 -- the execution time and the requests of a job on core q

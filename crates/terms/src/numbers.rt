@@ -34,6 +34,14 @@ impl Picos {
         self.0
     }
 
+    /// This time, so many times.
+    pub fn times(self, n: u64) -> Picos
+        requires { ⌜ n * self .0 < 2 ^ 64 ⌝ }
+        ensures { λ r. ⌜ r .0 ≡ n * self .0 ⌝ }
+    {
+        Picos(n * self.0)
+    }
+
     /// The lesser of two times.
     pub fn lesser(self, other: Picos) -> Picos
         ensures { λ r. ⌜ r .0 ≡ min (self .0) (other .0) ⌝ }
@@ -51,6 +59,14 @@ impl Requests {
         ensures { λ r. ⌜ r .0 ≡ n ⌝ }
     {
         Requests(n)
+    }
+
+    /// This count, so many times.
+    pub fn times(self, n: u64) -> Requests
+        requires { ⌜ n * self .0 < 2 ^ 64 ⌝ }
+        ensures { λ r. ⌜ r .0 ≡ n * self .0 ⌝ }
+    {
+        Requests(n * self.0)
     }
 
     /// The count as a number.

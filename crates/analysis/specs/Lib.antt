@@ -1,0 +1,4 @@
+pub mod Placed
+pub mod Fit
+pub mod Demand
+pub mod Times

@@ -1,0 +1,38 @@
+//! How many jobs of a task count.
+ghost use mathlib.Core.Path.{_≡_};
+ghost use Prim.Native.Nat.{_^_, _≤_};
+ghost use Rattle.tables.specs.Ranges.{Period};
+ghost use Rattle.analysis.specs.Demand.{jobs, own-jobs, other-jobs};
+use tables::model::Task;
+use terms::numbers::Picos;
+
+/// A time divided by a period, rounded up.
+fn jobs_in(t: Picos, period: Picos) -> u64
+    requires time { ⌜ t .0 ≤ 10 ^ 13 ⌝ }
+    requires period { ⌜ Period (period .0) ⌝ }
+    ensures is { λ r. ⌜ r ≡ jobs (t .0) (period .0) ⌝ }
+    ensures few { λ r. ⌜ r ≤ 10000 ⌝ }
+{
+    let period = period.get();
+    (t.get() + (period - 1)) / period
+}
+
+/// How many jobs of a task of the same partition count up to `t`.
+pub(crate) fn own_jobs(x: &Task, t: Picos) -> u64
+    requires time { ⌜ t .0 ≤ 10 ^ 13 ⌝ }
+    requires period { ⌜ Period (now x .period .0) ⌝ }
+    ensures is { λ r. ⌜ r ≡ own-jobs (now (x .entry)) (t .0) ⌝ }
+    ensures few { λ r. ⌜ r ≤ 10000 ⌝ }
+{
+    jobs_in(t, x.period)
+}
+
+/// How many jobs of a task on another core count up to `t`.
+pub(crate) fn other_jobs(x: &Task, t: Picos) -> u64
+    requires time { ⌜ t .0 ≤ 10 ^ 13 ⌝ }
+    requires period { ⌜ Period (now x .period .0) ⌝ }
+    ensures is { λ r. ⌜ r ≡ other-jobs (now (x .entry)) (t .0) ⌝ }
+    ensures few { λ r. ⌜ r ≤ 10000 ⌝ }
+{
+    jobs_in(t, x.period)
+}
