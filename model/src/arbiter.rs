@@ -9,7 +9,7 @@ pub const MOST_ASKED_COUNT: u128 = 1_000_000_000_000;
 
 /// t divided by period, rounded up.
 pub fn jobs(t: u128, period: u128) -> u128 {
-    (t + period - 1) / period
+    t.div_ceil(period)
 }
 
 /// Which of the pairs of cores share, the smaller number first in each pair.
@@ -123,10 +123,7 @@ impl JobDriven {
     }
 
     fn between(&self, p: usize, question: &Question) -> u128 {
-        (0..self.n)
-            .filter(|&q| q != p && !question.sharing.shares(p, q))
-            .map(|q| question.others[q] * self.l)
-            .sum()
+        (0..self.n).filter(|&q| q != p && !question.sharing.shares(p, q)).map(|q| question.others[q] * self.l).sum()
     }
 }
 

@@ -35,7 +35,10 @@ fn time(word: &str) -> Result<u128, String> {
         _ => return Err(wrong()),
     };
     let (whole, fraction) = number.split_once('.').unwrap_or((number, ""));
-    if whole.is_empty() || fraction.len() > places || !(whole.to_string() + fraction).bytes().all(|b| b.is_ascii_digit()) {
+    if whole.is_empty()
+        || fraction.len() > places
+        || !(whole.to_string() + fraction).bytes().all(|b| b.is_ascii_digit())
+    {
         return Err(wrong());
     }
     format!("{whole}{fraction:0<places$}").parse().map_err(|_| wrong())

@@ -154,7 +154,7 @@ impl Writer {
     }
 
     pub fn bytes(&self) -> Vec<u8> {
-        assert!(self.bits.len() % 8 == 0);
+        assert_eq!(self.bits.len() % 8, 0);
         self.bits.chunks(8).map(|eight| eight.iter().fold(0, |n, &bit| n * 2 + u8::from(bit))).collect()
     }
 }

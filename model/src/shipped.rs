@@ -33,10 +33,7 @@ pub fn two_cores() -> Tables {
     Tables {
         cores: 2,
         partitions: vec![partition("radio", 20 * MS), partition("disk", 10 * MS)],
-        tasks: vec![
-            task("receive", 0, 20 * MS, 20 * MS, 4 * MS, 1_000),
-            task("write", 1, 10 * MS, 10 * MS, MS, 2_000),
-        ],
+        tasks: vec![task("receive", 0, 20 * MS, 20 * MS, 4 * MS, 1_000), task("write", 1, 10 * MS, 10 * MS, MS, 2_000)],
         links: vec![(0, 1)],
     }
 }

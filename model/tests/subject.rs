@@ -50,6 +50,38 @@ fn small_files() {
 }
 
 #[test]
+fn a_file_byte_by_byte() {
+    let tab = [
+        0x42, 0x02, 0x04, //
+        0x00, 0x03, 0xB9, 0xAC, 0xA0, 0x01, 0x41, //
+        0x00, 0x4A, 0x81, 0x7C, 0x80, 0x01, 0x42, //
+        0x10, 0x04, 0xA8, 0x17, 0xC8, 0x00, 0x00, 0x34, 0x27, 0x70, 0xC0, 0x00, 0x00, 0xEE, 0x6B, 0x28, 0x00, 0x00,
+        0x0E, 0xE6, 0xB2, 0x80, 0x00, 0x01, 0x2A, 0x05, 0xF2, 0x00, 0x00, 0x12, 0xA0, 0x5F, 0x20, 0x00, 0x03, 0xE8,
+        0x00, 0x3E, 0x80, 0x04, 0xB0, 0x00, 0x4B, 0x02, 0x72, 0x78, //
+        0x01,
+    ];
+    let said = Tables {
+        cores: 2,
+        partitions: vec![
+            Partition { period: MS, name: b"A".to_vec() },
+            Partition { period: 20 * MS, name: b"B".to_vec() },
+        ],
+        tasks: vec![Task {
+            partition: 1,
+            period: 20 * MS,
+            deadline: 14 * MS,
+            execution: [4 * MS, 4 * MS, 5 * MS, 5 * MS],
+            requests: [1_000, 1_000, 1_200, 1_200],
+            name: b"rx".to_vec(),
+        }],
+        links: vec![(0, 1)],
+    };
+    assert_eq!(tab.len(), 64);
+    assert_eq!(file::read(&tab), Ok(said));
+    assert_eq!(check_text(&tab, &[255, 1]), b"0 4000000000\n");
+}
+
+#[test]
 fn headers() {
     assert_eq!(told(&[]), (1, 0));
     assert_eq!(told(&[0x20, 0]), (1, 0));
@@ -200,12 +232,8 @@ fn two_cores_disturb_each_other() {
 #[test]
 fn limit_is_the_least_of_three() {
     for (deadline, of_partition, period, least) in [(5, 6, 7, 5), (6, 5, 7, 5), (7, 6, 5, 5)] {
-        let plan = Plan::of_tables(tables(
-            1,
-            &[of_partition * MS],
-            vec![task(0, period * MS, deadline * MS, 1, 0)],
-            &[],
-        ));
+        let plan =
+            Plan::of_tables(tables(1, &[of_partition * MS], vec![task(0, period * MS, deadline * MS, 1, 0)], &[]));
         assert_eq!(plan.limit(0), least * MS);
     }
 }
@@ -259,6 +287,19 @@ fn a_withdrawal_can_make_a_task_late() {
     assert_eq!(plan.all_times(&arbiter)[0], MS + 113_750_000);
     assert_eq!(no(plan.withdraw(&arbiter, 2)), (15, 0));
     assert_eq!(plan, before);
+}
+
+#[test]
+fn a_move_can_make_a_task_on_another_core_late() {
+    let mut with = two_cores();
+    with.links.clear();
+    with.tasks[1].deadline = 1_040_000_000;
+    let arbiter = station(2);
+    let mut plan = Plan::of_tables(with);
+    plan.adopt(&arbiter, &[1, 1]).unwrap();
+    assert_eq!(plan.all_times(&arbiter), [4 * MS, MS]);
+    assert_eq!(no(plan.place(&arbiter, 0, 0)), (15, 1));
+    assert_eq!(plan.core, [Some(1), Some(1)]);
 }
 
 #[test]
@@ -483,8 +524,7 @@ fn least_fixed_points_are_those_of_a_scan() {
                 assert_eq!(plan.time(&arbiter, i), None);
                 continue;
             };
-            let fixed: Vec<u128> =
-                (0..=plan.limit(i)).filter(|&t| plan.demand(&arbiter, i, p, t) == t).collect();
+            let fixed: Vec<u128> = (0..=plan.limit(i)).filter(|&t| plan.demand(&arbiter, i, p, t) == t).collect();
             assert_eq!(plan.time(&arbiter, i), fixed.first().copied());
             match fixed.len() {
                 0 => without += 1,
