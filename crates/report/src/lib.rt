@@ -1,0 +1,1 @@
+//! What the programs write: numbers, lines, listings and refusals as text.
