@@ -13,6 +13,7 @@ use Rattle.tables.specs.Layout.{Tabled, tables-of, names-of, layout}
 pub record Accepted (file : List ℕ) (t : Tabled) : Type 0 where
   pub book : Book
   pub is : decode file ≡ Ok book
+  pub whole : file ≡ layout (tables-of book) (names-of book)
   pub tables : t ≡ tables-of book
 
 -- the file is refused, and this is its first fault

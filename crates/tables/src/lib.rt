@@ -13,6 +13,7 @@ pub mod room;
 mod row;
 mod search;
 mod task_row;
+
 pub use file_row::FileRow;
 pub use header::Header;
 pub use link_row::LinkRow;

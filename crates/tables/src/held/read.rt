@@ -19,7 +19,9 @@ impl Tables {
     /// The tables of a file, or its first fault. An accepted file is the layout of its tables and names, so no other
     /// file has both.
     pub fn read(room: Room, file: &[u8]) -> Result<Tables, Refusal>
-        ensures { λ r. ⌜ Cases r (λ t. Accepted (now (file .entry)) (tabled t)) (λ e. Refused (now (file .entry)) e) ⌝ }
+        ensures answer { λ r. ⌜ Cases r (λ t. Accepted (now (file .entry)) (tabled t)) (λ e. Refused (now (file .entry)) e) ⌝ }
+        ensures laid { λ _. ⌜ Laid-out ⌝ }
+        ensures alone { λ _. ⌜ One-file ⌝ }
     {
         contents(room, file)
     }
