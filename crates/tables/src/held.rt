@@ -8,6 +8,8 @@ use super::model::Link;
 use super::model::Partition;
 use super::model::Task;
 
+mod read;
+
 /// All that a table file says but the names.
 #[derive(Drop)]
 pub struct Tables {

@@ -1,0 +1,6 @@
+pub mod Packing
+pub mod Walk
+pub mod Runs
+pub mod InRange
+pub mod Laid
+pub mod Decoding
