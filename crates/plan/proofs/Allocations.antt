@@ -1,0 +1,54 @@
+-- Allocations, one entry more at a time. Assumes nothing.
+use mathlib.Core.Path.{_≡_, refl, sym, ap, _∙_}
+use mathlib.Core.Bool.{Bool, true, false, _||_}
+use mathlib.Core.List.{List, [], _∷_, _++_, map, append-assoc}
+use Prim.Native.Nat.{ℕ, zero, suc, _+_, _-_, _<_, _≤_}
+use native.Mathlib.Omega.{arith}
+use lib.Dec.{eqb, ltb}
+use lib.ListN.{length, getD, take, drop, set, replicate}
+use Rattle.std.proofs.shelf.Lists.{drop-more, drop-all, map-more, set-at, length-map, length-take-le}
+use Rattle.std.proofs.shelf.Tests.{eq-eqb, ne-eqb, lt-ltb, le-ltb, or-left, or-right, or-from}
+use Rattle.std.specs.declared.option.Option.{Option}
+use Rattle.std.specs.declared.option.Option.the-variants.{Some, None}
+use Rattle.terms.specs.Cores.{numbered}
+use Rattle.terms.specs.declared.cores.Core.{Core}
+use Rattle.arbiter.specs.Settings.{first-out}
+use Rattle.plan.specs.Adoption.{names-core, laid}
+
+module _ (cores : ℕ) (entries : List ℕ) (k : ℕ) (within : k < length entries) where
+  -- an entry that names a core or none
+  pub passes : names-core cores (getD entries k 0) ≡ true → first-out k (map (names-core cores) (drop k entries)) ≡ first-out (k + 1) (map (names-core cores) (drop (k + 1) entries))
+  passes e =
+      ap (λ l. first-out k (map (names-core cores) l)) (drop-more entries k 0 within)
+      ∙ ap (λ b. first-out k (b ∷ map (names-core cores) (drop (k + 1) entries))) e
+
+  -- one that does not
+  pub stops : names-core cores (getD entries k 0) ≡ false → first-out k (map (names-core cores) (drop k entries)) ≡ Some k
+  stops e =
+      ap (λ l. first-out k (map (names-core cores) l)) (drop-more entries k 0 within)
+      ∙ ap (λ b. first-out k (b ∷ map (names-core cores) (drop (k + 1) entries))) e
+
+pub ends : (cores : ℕ) (entries : List ℕ) (k : ℕ) → length entries ≤ k → first-out k (map (names-core cores) (drop k entries)) ≡ None
+ends cores entries k h = ap (λ l. first-out k (map (names-core cores) l)) (drop-all k entries h)
+
+pub names-none : (cores b : ℕ) → b ≡ 255 → names-core cores b ≡ true
+names-none cores b e = or-left (eqb b 255) (ltb b cores) (eq-eqb b 255 e)
+
+pub names-one : (cores b : ℕ) → b < cores → names-core cores b ≡ true
+names-one cores b h = or-right (eqb b 255) (ltb b cores) (lt-ltb b cores h)
+
+pub names-no : (cores b : ℕ) → (b ≡ 255 → ⊥) → cores ≤ b → names-core cores b ≡ false
+names-no cores b n h = or-from (eqb b 255) (ltb b cores) (ne-eqb b 255 n) (le-ltb b cores h)
+
+-- one entry more is laid
+pub laid-more : (entries : List ℕ) (k : ℕ) → k < length entries → length entries ≤ 16 → set (laid (take k entries)) k (numbered (getD entries k 0)) ≡ laid (take (k + 1) entries)
+laid-more entries k within few =
+    let front = map numbered (take k entries) in
+    let long : length (take k entries) ≡ k = length-take-le k entries (omega arith) in
+    let next : length (take (k + 1) entries) ≡ k + 1 = length-take-le (k + 1) entries (omega arith) in
+    let left = replicate {A = Option Core} (16 - length (take (k + 1) entries)) None in
+    let room : 16 - length (take k entries) ≡ suc (16 - length (take (k + 1) entries)) = omega arith in
+    ap (λ n. set (front ++ replicate n None) k (numbered (getD entries k 0))) room
+    ∙ set-at front None left (numbered (getD entries k 0)) k (length-map (take k entries) numbered ∙ long)
+    ∙ sym (append-assoc front (numbered (getD entries k 0) ∷ []) left)
+    ∙ ap (λ xs. xs ++ left) (sym (map-more numbered entries k 0 within))

@@ -1,0 +1,6 @@
+//! A plan: the tables of a computer and the placement of its partitions, and the calls on it.
+pub mod adoption;
+pub mod birth;
+pub mod calls;
+pub mod plan;
+pub mod questions;
