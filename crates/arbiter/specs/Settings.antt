@@ -1,9 +1,6 @@
 -- Which setting is refused, and what is made of settings in range. Assumes nothing.
 use mathlib.Core.Path.{_≡_}
-use mathlib.Core.Bool.{Bool, true, false, _&&_}
-use mathlib.Core.List.{List, [], _∷_}
-use Prim.Native.Nat.{ℕ, _+_, _≤_}
-use lib.Dec.{leb}
+use Prim.Native.Nat.{ℕ, _≤_}
 use Rattle.std.specs.declared.option.Option.{Option}
 use Rattle.std.specs.declared.option.Option.the-variants.{Some, None}
 use Rattle.std.specs.declared.result.Result.{Result}
@@ -16,16 +13,6 @@ Within least most x = (least ≤ x) × (x ≤ most)
 
 abbrev pub Outside : ℕ → ℕ → ℕ → ℕ → Refusal → Type 0
 Outside position least most x e = (told e ≡ (8, position)) × (Within least most x → ⊥)
-
--- whether a setting is in its range
-abbrev pub within : ℕ → ℕ → ℕ → Bool
-within least most x = leb least x && leb x most
-
--- the place of the first test that fails, counted on from k
-abbrev pub first-out : ℕ → List Bool → Option ℕ
-first-out k [] = None
-first-out k (true ∷ rest) = first-out (k + 1) rest
-first-out k (false ∷ rest) = Some k
 
 -- with each setting in its range a value is made, of which P holds; else the first that is not is told
 abbrev pub Made : {A : Type 0} → Option ℕ → Result A Refusal → (A → Type 0) → Type 0

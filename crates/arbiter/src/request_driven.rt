@@ -2,7 +2,8 @@
 ghost use mathlib.Core.Path.{_≡_};
 ghost use mathlib.Core.List.{[], _∷_};
 ghost use Prim.Native.Nat.{_≤_};
-ghost use Rattle.arbiter.specs.Settings.{within, first-out, Made};
+ghost use Rattle.terms.specs.Checks.{within, first-out};
+ghost use Rattle.arbiter.specs.Settings.{Made};
 use super::banks::Banks;
 use super::banks::LONGEST_DELAY;
 use super::settings::in_range;

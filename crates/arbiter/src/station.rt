@@ -1,7 +1,8 @@
 //! The pile of arbiters of our station.
 ghost use mathlib.Core.Path.{_≡_};
 ghost use mathlib.Core.List.{[], _∷_};
-ghost use Rattle.arbiter.specs.Settings.{within, first-out, Made};
+ghost use Rattle.terms.specs.Checks.{within, first-out};
+ghost use Rattle.arbiter.specs.Settings.{Made};
 ghost use Rattle.arbiter.specs.Station.{OurPile};
 use super::job_driven::JobDriven;
 use super::lesser::Lesser;

@@ -5,31 +5,14 @@ use mathlib.Core.List.{List, [], _∷_, _++_, map, append-assoc}
 use Prim.Native.Nat.{ℕ, zero, suc, _+_, _-_, _<_, _≤_}
 use native.Mathlib.Omega.{arith}
 use lib.Dec.{eqb, ltb}
-use lib.ListN.{length, getD, take, drop, set, replicate}
-use Rattle.std.proofs.shelf.Lists.{drop-more, drop-all, map-more, set-at, length-map, length-take-le}
+use lib.ListN.{length, getD, take, set, replicate}
+use Rattle.std.proofs.shelf.Lists.{map-more, set-at, length-map, length-take-le}
 use Rattle.std.proofs.shelf.Tests.{eq-eqb, ne-eqb, lt-ltb, le-ltb, or-left, or-right, or-from}
 use Rattle.std.specs.declared.option.Option.{Option}
 use Rattle.std.specs.declared.option.Option.the-variants.{Some, None}
 use Rattle.terms.specs.Cores.{numbered}
 use Rattle.terms.specs.declared.cores.Core.{Core}
-use Rattle.arbiter.specs.Settings.{first-out}
 use Rattle.plan.specs.Adoption.{names-core, laid}
-
-module _ (cores : ℕ) (entries : List ℕ) (k : ℕ) (within : k < length entries) where
-  -- an entry that names a core or none
-  pub passes : names-core cores (getD entries k 0) ≡ true → first-out k (map (names-core cores) (drop k entries)) ≡ first-out (k + 1) (map (names-core cores) (drop (k + 1) entries))
-  passes e =
-      ap (λ l. first-out k (map (names-core cores) l)) (drop-more entries k 0 within)
-      ∙ ap (λ b. first-out k (b ∷ map (names-core cores) (drop (k + 1) entries))) e
-
-  -- one that does not
-  pub stops : names-core cores (getD entries k 0) ≡ false → first-out k (map (names-core cores) (drop k entries)) ≡ Some k
-  stops e =
-      ap (λ l. first-out k (map (names-core cores) l)) (drop-more entries k 0 within)
-      ∙ ap (λ b. first-out k (b ∷ map (names-core cores) (drop (k + 1) entries))) e
-
-pub ends : (cores : ℕ) (entries : List ℕ) (k : ℕ) → length entries ≤ k → first-out k (map (names-core cores) (drop k entries)) ≡ None
-ends cores entries k h = ap (λ l. first-out k (map (names-core cores) l)) (drop-all k entries h)
 
 pub names-none : (cores b : ℕ) → b ≡ 255 → names-core cores b ≡ true
 names-none cores b e = or-left (eqb b 255) (ltb b cores) (eq-eqb b 255 e)

@@ -11,7 +11,7 @@ use Rattle.terms.specs.Cores.{numbered}
 use Rattle.terms.specs.Refusals.{told}
 use Rattle.terms.specs.declared.cores.Core.{Core}
 use Rattle.terms.specs.declared.refusal.Refusal.{Refusal}
-use Rattle.arbiter.specs.Settings.{first-out}
+use Rattle.terms.specs.Checks.{first-out}
 use Rattle.tables.specs.declared.model.Partition.{Partition}
 
 -- an entry is the number of a core of the computer, or 255 for none

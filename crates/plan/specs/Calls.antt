@@ -12,7 +12,7 @@ use Rattle.std.specs.declared.result.Result.the-variants.{Ok, Err}
 use Rattle.terms.specs.Refusals.{told}
 use Rattle.terms.specs.declared.cores.Core.{Core}
 use Rattle.terms.specs.declared.refusal.Refusal.{Refusal}
-use Rattle.arbiter.specs.Settings.{first-out}
+use Rattle.terms.specs.Checks.{first-out}
 use Rattle.arbiter.specs.declared.question.Question.{Question}
 use Rattle.analysis.specs.Demand.{State}
 use Rattle.analysis.specs.Times.{First-late}

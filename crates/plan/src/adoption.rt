@@ -5,7 +5,7 @@ ghost use Prim.Native.Nat.{_≤_};
 ghost use lib.ListN.{length};
 ghost use Rattle.analysis.specs.Demand.{state};
 ghost use Rattle.analysis.specs.declared.placement.Placement.{Placement};
-ghost use Rattle.arbiter.specs.Settings.{first-out};
+ghost use Rattle.terms.specs.Checks.{first-out};
 ghost use Rattle.plan.specs.Adoption.{names-core, laid};
 ghost use Rattle.plan.specs.Calls.{adopt-asks, Allocates};
 use analysis::placement::Placement;

@@ -1,3 +1,4 @@
+pub mod Checks
 pub mod Cores
 pub mod Refusals
 pub mod Sums

@@ -1,8 +1,13 @@
-use mathlib.Core.Path.{_≡_, sym, ap, _∙_}
-use mathlib.Core.Bool.{true}
-use lib.ListN.{getD}
+use mathlib.Core.Path.{_≡_, sym, _∙_}
+use mathlib.Core.Bool.{true, false}
+use mathlib.Core.List.{map}
+use Prim.Native.Nat.{_<_}
+use native.Mathlib.Omega.{arith}
+use lib.ListN.{getD, length}
+use Rattle.std.proofs.shelf.Lists.{getD-map, length-map}
+use Rattle.terms.proofs.FirstOut.{passes, stops, ends}
 use Rattle.plan.specs.Adoption.{names-core}
-use Rattle.plan.proofs.Allocations.{passes, stops, ends, names-none, names-one, names-no}
+use Rattle.plan.proofs.Allocations.{names-none, names-one, names-no}
 use Rattle.plan.proofs.adoption.first_unknown.Needs as need
 use Rattle.plan.proofs.adoption.first_unknown.Needs.{else-entry·by·then-entry·else-entry-cores, else-entry·by·else-entry}
 
@@ -12,17 +17,22 @@ loop-i-again c =
     let entries = c .args .entries .now in
     let i = c .loop-i .i in
     let good : names-core cores (getD entries i 0) ≡ true = elim (c .else-entry .came) [
-      | else-entry·by·then-entry·else-entry-cores w ↦ names-one cores (getD entries i 0) (w .if-entry-cores .left)
-      | else-entry·by·else-entry w ↦ names-none cores (getD entries i 0) (w .if-entry .left)
+      else-entry·by·then-entry·else-entry-cores w ↦ names-one cores (getD entries i 0) (w .if-entry-cores .left)
+    | else-entry·by·else-entry w ↦ names-none cores (getD entries i 0) (w .if-entry .left)
     ] in
-    c .loop-i .inv ∙ passes cores entries i (c .loop-i-test .taken) good
+    let long = length-map entries (names-core cores) in
+    c .loop-i .inv ∙ passes (map (names-core cores) entries) i (omega arith) (getD-map (names-core cores) entries i 0 false (c .loop-i-test .taken) ∙ good)
 
 pub returns-then-entry-cores : need.returns-then-entry-cores
 returns-then-entry-cores c =
     let cores = c .args .cores in
     let entries = c .args .entries .now in
     let i = c .loop-i .i in
-    sym (c .loop-i .inv ∙ stops cores entries i (c .loop-i-test .taken) (names-no cores (getD entries i 0) (c .if-entry .taken) (c .if-entry-cores .taken)))
+    let bad = names-no cores (getD entries i 0) (c .if-entry .taken) (c .if-entry-cores .taken) in
+    let long = length-map entries (names-core cores) in
+    sym (c .loop-i .inv ∙ stops (map (names-core cores) entries) i (omega arith) (getD-map (names-core cores) entries i 0 false (c .loop-i-test .taken) ∙ bad))
 
 pub returns : need.returns
-returns c = sym (c .loop-i .inv ∙ ends (c .args .cores) (c .args .entries .now) (c .loop-i .i) (c .loop-i-test .left))
+returns c =
+    let long = length-map (c .args .entries .now) (names-core (c .args .cores)) in
+    sym (c .loop-i .inv ∙ ends (map (names-core (c .args .cores)) (c .args .entries .now)) (c .loop-i .i) (omega arith))
