@@ -1,3 +1,5 @@
+pub mod Replaced
+pub mod Passed
 pub mod Packing
 pub mod Walk
 pub mod Runs

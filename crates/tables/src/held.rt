@@ -9,6 +9,7 @@ use super::model::Partition;
 use super::model::Task;
 
 mod read;
+mod retiming;
 
 /// All that a table file says but the names.
 #[derive(Drop)]

@@ -6,6 +6,7 @@ pub mod held;
 mod link_row;
 pub mod model;
 mod names;
+pub mod numbers;
 mod partition_row;
 mod ranges;
 pub mod reader;
@@ -13,6 +14,8 @@ pub mod room;
 mod row;
 mod search;
 mod task_row;
+pub mod timing;
+mod timing_checks;
 
 pub use file_row::FileRow;
 pub use header::Header;

@@ -17,8 +17,8 @@ loop-i-again c =
     let entries = c .args .entries .now in
     let i = c .loop-i .i in
     let good : names-core cores (getD entries i 0) ≡ true = elim (c .else-entry .came) [
-      else-entry·by·then-entry·else-entry-cores w ↦ names-one cores (getD entries i 0) (w .if-entry-cores .left)
-    | else-entry·by·else-entry w ↦ names-none cores (getD entries i 0) (w .if-entry .left)
+      | else-entry·by·then-entry·else-entry-cores w ↦ names-one cores (getD entries i 0) (w .if-entry-cores .left)
+      | else-entry·by·else-entry w ↦ names-none cores (getD entries i 0) (w .if-entry .left)
     ] in
     let long = length-map entries (names-core cores) in
     c .loop-i .inv ∙ passes (map (names-core cores) entries) i (omega arith) (getD-map (names-core cores) entries i 0 false (c .loop-i-test .taken) ∙ good)
