@@ -3,18 +3,24 @@ use mathlib.Core.Path.{_≡_}
 use mathlib.Core.Bool.{cond}
 use mathlib.Core.List.{List, map}
 use Prim.Native.Nat.{ℕ}
-use lib.Dec.{eqb}
-use lib.ListN.{length}
+use lib.Dec.{eqb, ltb}
+use lib.ListN.{length, getD, set}
 use Rattle.std.specs.declared.option.Option.{Option}
 use Rattle.std.specs.declared.option.Option.the-variants.{Some, None}
 use Rattle.std.specs.declared.result.Result.{Result}
 use Rattle.std.specs.declared.result.Result.the-variants.{Ok, Err}
+use Rattle.std.specs.Options.{isSome}
+use Rattle.terms.specs.Cores.{numbered}
 use Rattle.terms.specs.Refusals.{told}
 use Rattle.terms.specs.declared.cores.Core.{Core}
 use Rattle.terms.specs.declared.refusal.Refusal.{Refusal}
 use Rattle.terms.specs.Checks.{first-out}
 use Rattle.arbiter.specs.declared.question.Question.{Question}
+use Rattle.tables.specs.Ranges.{no-task}
+use Rattle.tables.specs.Retimed.{retimed, numbers-in-range}
+use Rattle.tables.specs.declared.numbers.Numbers.{Numbers}
 use Rattle.analysis.specs.Demand.{State}
+use Rattle.analysis.specs.Placed.{core-at}
 use Rattle.analysis.specs.Times.{First-late}
 use Rattle.analysis.specs.declared.placement.Placement.{Placement}
 use Rattle.plan.specs.Adoption.{names-core, laid}
@@ -38,6 +44,36 @@ adopt-asks s entries =
     cond (eqb (length entries) (length (s .partitions)))
     (known (first-out 0 (map (names-core (s .cores)) entries)) (replaced s (laid entries)))
     (Err (13, length entries))
+
+-- place: the partition exists, and the core is one of the computer's; a placed partition moves
+abbrev pub place-asks : State → ℕ → ℕ → Asked
+place-asks s partition core =
+    cond (ltb partition (length (s .partitions)))
+      (cond (ltb core (s .cores)) (Ok (replaced s (set (s .placement) partition (numbered core)))) (Err (10, core)))
+      (Err (9, partition))
+
+-- withdraw: the partition exists and is placed
+abbrev pub withdraw-asks : State → ℕ → Asked
+withdraw-asks s partition =
+    cond (ltb partition (length (s .partitions)))
+      (cond (isSome (core-at (s .placement) partition)) (Ok (replaced s (set (s .placement) partition None))) (Err (12, partition)))
+      (Err (9, partition))
+
+-- the state with other numbers for a task
+abbrev pub with-numbers : State → ℕ → Numbers → State
+with-numbers s i n = record {
+  cores = s .cores; partitions = s .partitions; tasks = set (s .tasks) i (retimed (getD (s .tasks) i no-task) n); links = s .links; placement = s .placement
+}
+
+-- refused with 14 at the position of a number out of range
+abbrev pub ranged : Option ℕ → State → Asked
+ranged (Some position) n = Err (14, position)
+ranged None n = Ok n
+
+-- retime: the task exists, and its numbers are in range
+abbrev pub retime-asks : State → ℕ → Numbers → Asked
+retime-asks s i n =
+    cond (ltb i (length (s .tasks))) (ranged (first-out 0 (numbers-in-range n)) (with-numbers s i n)) (Err (11, i))
 
 -- a placement that is what is asked for in the state s, or a refusal that is
 abbrev pub Allocates : Asked → State → Result Placement Refusal → Type 0

@@ -4,3 +4,4 @@ pub mod birth;
 pub mod calls;
 pub mod plan;
 pub mod questions;
+pub mod retiming;
