@@ -6,3 +6,5 @@ pub mod Joins
 pub mod Rise
 pub mod Least
 pub mod Steps
+pub mod Settling
+pub mod Eases

@@ -2,3 +2,4 @@ pub mod Placed
 pub mod Fit
 pub mod Demand
 pub mod Times
+pub mod Easing

@@ -50,3 +50,12 @@ module _ (test : ℕ → Bool) where
 -- the sum rises, under tests that agree
 pub sum-rises : (d e : ℕ → Bool) (f g : ℕ → ℕ) (n : ℕ) → d ≡ e → ((k : ℕ) → k < n → f k ≤ g k) → sum-where n d f ≤ sum-where n e g
 sum-rises d e f g n same h = rw same (sum-mono e f g n h)
+
+-- the sum is no larger, under tests that agree below n
+pub sum-under : (d e : ℕ → Bool) (f g : ℕ → ℕ) (n : ℕ) → ((k : ℕ) → k < n → d k ≡ e k) → ((k : ℕ) → k < n → f k ≤ g k) → sum-where n d f ≤ sum-where n e g
+sum-under d e f g zero same h = omega arith
+sum-under d e f g (suc n) same h =
+    let before = sum-under d e f g n (λ k below. same k (omega arith)) (λ k below. h k (omega arith)) in
+    let here = part-mono (e n) (f n) (g n) (h n (omega arith)) in
+    let there = ap (λ b. part b (f n)) (same n (omega arith)) in
+    omega arith
