@@ -1,3 +1,5 @@
 pub mod Born
 pub mod Adoption
 pub mod Calls
+pub mod History
+pub mod Rehearsal

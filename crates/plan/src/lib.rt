@@ -2,6 +2,10 @@
 pub mod adoption;
 pub mod birth;
 pub mod calls;
+pub mod change;
+pub mod outcome;
+pub mod playing;
+pub mod rehearsal;
 pub mod plan;
 pub mod questions;
 pub mod retiming;
