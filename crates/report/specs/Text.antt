@@ -12,9 +12,13 @@ use Rattle.terms.specs.Refusals.{told}
 use Rattle.terms.specs.declared.numbers.Picos.{Picos}
 use Rattle.terms.specs.declared.refusal.Refusal.{Refusal}
 
+-- a line of two numbers, with a text before each
+abbrev pub two-numbers : List ℕ → ℕ → List ℕ → ℕ → List ℕ
+two-numbers before n between m = before ++ decimal n ++ between ++ decimal m ++ codes "\n"
+
 -- the line of entry k, whose time is t: the number, a blank, the time
 abbrev pub line : ℕ → ℕ → List ℕ
-line k t = decimal k ++ (codes " " ++ (decimal t ++ codes "\n"))
+line k t = decimal k ++ codes " " ++ decimal t ++ codes "\n"
 
 -- the lines of some times, the first of which has the number k
 abbrev pub lines : ℕ → List Picos → List ℕ
@@ -27,7 +31,7 @@ listing ts = lines 0 ts
 
 -- the line of a refusal: its number, and what it tells
 abbrev pub refused-line : Refusal → List ℕ
-refused-line e = codes "refused " ++ (decimal (told e .0) ++ (codes " at " ++ (decimal (told e .1) ++ codes "\n")))
+refused-line e = codes "refused " ++ decimal (told e .0) ++ codes " at " ++ decimal (told e .1) ++ codes "\n"
 
 -- a buffer before and after a text was put into its front, where it has room: n bytes are the text, and the rest is as it was
 pub record Put (text old : List ℕ) (n : ℕ) (new : List ℕ) : Type 0 where

@@ -1,6 +1,6 @@
 //! What the programs write: numbers, lines, listings and refusals as text.
 pub mod digits;
-//mod lines;
-//pub mod listing;
-//pub mod refused;
+mod lines;
+pub mod listing;
+pub mod refused;
 pub mod times;
