@@ -3,4 +3,6 @@ pub mod digits;
 mod lines;
 pub mod listing;
 pub mod refused;
+#[cfg(test)]
+mod tests;
 pub mod times;
