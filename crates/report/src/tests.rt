@@ -6,6 +6,7 @@ use super::times::Times;
 use std::test::*;
 use terms::numbers::Picos;
 use terms::refusal::Refusal;
+use terms::refusal::RefusalPartialEq;
 
 /// Whether a number is written as this text, and nothing behind it.
 fn shows(n: u64, text: &[u8]) -> bool {
