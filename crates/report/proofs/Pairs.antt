@@ -4,10 +4,13 @@ use mathlib.Core.List.{List, [], _∷_, _++_, append-assoc}
 use Prim.Native.Nat.{ℕ, _+_, _-_, _^_, _≤_, _<_}
 use native.Mathlib.Omega.{arith}
 use borrow.Rule.Slice.PartMut.{putMid}
+use lib.Chars.{codes}
 use lib.ListN.{length, set, take, drop}
 use Rattle.std.proofs.shelf.Lists.{length-append, length-push}
 use Rattle.std.specs.Written.{decimal}
-use Rattle.report.specs.Text.{Put, two-numbers}
+use Rattle.terms.specs.Refusals.{told}
+use Rattle.terms.specs.declared.refusal.Refusal.{Refusal}
+use Rattle.report.specs.Text.{Put, refused-line, two-numbers}
 use Rattle.report.proofs.Decimal.{length-most}
 use Rattle.report.proofs.Puts.{put-byte, put-more}
 
@@ -40,3 +43,7 @@ module _ (before : List ℕ) (n : ℕ) (between : List ℕ) (m : ℕ) where
 
   pub length-two-most : length before ≤ 8 → length between ≤ 8 → n < 2 ^ 64 → m < 2 ^ 64 → length both + 1 ≤ 57
   length-two-most x y f g = omega (arith, length-two, ap length ended, length-push both 10, length-most n f, length-most m g)
+
+-- the line of a refusal, from its number and what it tells
+pub refused-is : (e : Refusal) (n m : ℕ) → n ≡ told e .0 → m ≡ told e .1 → two-numbers (codes "refused ") n (codes " at ") m ≡ refused-line e
+refused-is e n m number tells = ap (λ (k : ℕ). two-numbers (codes "refused ") k (codes " at ") m) number ∙ ap (λ (k : ℕ). two-numbers (codes "refused ") (told e .0) (codes " at ") k) tells

@@ -4,10 +4,11 @@ ghost use Prim.Native.Nat.{_≤_};
 ghost use lib.ListN.{length};
 ghost use Rattle.std.specs.Written.{decimal};
 ghost use Rattle.report.specs.Text.{Put, Written, Reads-back};
+use super::room::fits;
 use terms::refusal::Refusal;
 
 /// How many digits a number has.
-pub fn number_length(n: u64) -> usize
+pub(crate) fn number_length(n: u64) -> usize
     ensures is { λ r. ⌜ r ≡ length (decimal n) ⌝ }
     ensures few { λ r. ⌜ r ≤ 20 ⌝ }
 {
@@ -35,8 +36,6 @@ pub fn write_number(n: u64, out: &mut [u8]) -> Result<usize, Refusal>
     ensures back { λ r. ⌜ Reads-back n r (now (out .exit)) ⌝ }
 {
     let needed = number_length(n);
-    if out.len() < needed {
-        return Err(Refusal::ShortBuffer { needed });
-    }
+    fits(needed, out.len())?;
     Ok(put_number(n, out))
 }

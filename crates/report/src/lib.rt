@@ -3,6 +3,7 @@ pub mod digits;
 mod lines;
 pub mod listing;
 pub mod refused;
+mod room;
 #[cfg(test)]
 mod tests;
 pub mod times;

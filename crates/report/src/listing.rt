@@ -6,6 +6,7 @@ ghost use Rattle.report.specs.Listed.{listed};
 ghost use Rattle.report.specs.Text.{Put, Written, listing};
 use super::lines::line_length;
 use super::lines::put_line;
+use super::room::fits;
 use super::times::Times;
 use terms::refusal::Refusal;
 
@@ -39,8 +40,6 @@ pub fn write_listing(times: &Times, out: &mut [u8]) -> Result<usize, Refusal>
     ensures { λ r. ⌜ Written (listing (listed (now (times .entry)))) (now (out .entry)) r (now (out .exit)) ⌝ }
 {
     let needed = listing_length(times);
-    if out.len() < needed {
-        return Err(Refusal::ShortBuffer { needed });
-    }
+    fits(needed, out.len())?;
     Ok(put_listing(times, out))
 }
