@@ -17,7 +17,8 @@ fn put_text(text: &[u8], out: &mut [u8]) -> usize
     text.len()
 }
 
-/// Puts a short text and a number behind it into the front of a buffer that has room for them, and tells their length.
+/// Puts a text of at most 8 bytes, and a number behind it, into the front of a buffer that has room for them, and
+/// tells their length.
 fn put_labelled(label: &[u8], n: u64, out: &mut [u8]) -> usize
     requires short { ⌜ length (now label) ≤ 8 ⌝ }
     requires room { ⌜ length (now label ++ decimal n) ≤ length (now out) ⌝ }
@@ -27,7 +28,7 @@ fn put_labelled(label: &[u8], n: u64, out: &mut [u8]) -> usize
     at + put_number(n, &mut out[at..])
 }
 
-/// How long a line is: a short text, a number, a second of each, and the end of the line.
+/// How long a line of two numbers is, with a text of at most 8 bytes before each, and the end of the line.
 pub(crate) fn line_length(before: &[u8], n: u64, between: &[u8], m: u64) -> usize
     requires before { ⌜ length (now before) ≤ 8 ⌝ }
     requires between { ⌜ length (now between) ≤ 8 ⌝ }

@@ -14,10 +14,7 @@ pub struct Times {
 }
 
 impl Times {
-    /// How many times there are at most.
-    pub const MOST: usize = 64;
-
-    /// The first `count` entries.
+    /// The times in the first `count` entries.
     pub fn new(entries: [Picos; 64], count: usize) -> Times
         requires { ⌜ count ≤ 64 ⌝ }
         ensures entries { λ r. ⌜ r .entries ≡ entries ⌝ }
@@ -33,7 +30,7 @@ impl Times {
         self.count
     }
 
-    /// The time of one entry, as a number.
+    /// The time with this number, from 0.
     pub fn at(&self, k: usize) -> Picos
         requires { ⌜ k < now self .count ⌝ }
         ensures { λ r. ⌜ r ≡ getD (now (self .entry) .entries) k r ⌝ }
