@@ -1,5 +1,5 @@
-use mathlib.Core.Path.{_≡_, sym, ap, _∙_}
-use Prim.Native.Nat.{_+_, _<_, _^_}
+use mathlib.Core.Path.{sym}
+use Prim.Native.Nat.{_<_, _^_}
 use native.Mathlib.Omega.{arith}
 use Rattle.report.proofs.Decimal.{length-digit, length-step, length-most}
 use Rattle.report.proofs.digits.+number_length.Needs as need
