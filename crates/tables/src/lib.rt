@@ -13,6 +13,8 @@ pub mod room;
 mod row;
 mod search;
 mod task_row;
+#[cfg(test)]
+mod tests;
 
 pub use file_row::FileRow;
 pub use header::Header;
