@@ -31,7 +31,7 @@ use Rattle.tables.proofs.Laid.{laid-out, head-sound, partitions-ran, tasks-ran
 then-err : {X Y : Type 0} {q : Result X (ℕ × ℕ)} (f : X → Result Y (ℕ × ℕ)) {x : ℕ × ℕ} → q ≡ Err x → and-then q f ≡ Err x
 then-err f e = ap (λ q. and-then q f) e
 
-then-ok : {X Y : Type 0} {q : Result X (ℕ × ℕ)} (f : X → Result Y (ℕ × ℕ)) {x : X} → q ≡ Ok x → and-then q f ≡ f x
+pub then-ok : {X Y : Type 0} {q : Result X (ℕ × ℕ)} (f : X → Result Y (ℕ × ℕ)) {x : X} → q ≡ Ok x → and-then q f ≡ f x
 then-ok f e = ap (λ q. and-then q f) e
 
 -- the same of a reader that has the file as `seen` and stands where we know

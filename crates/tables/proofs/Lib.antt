@@ -1,6 +1,10 @@
 pub mod Packing
+pub mod Unpacking
 pub mod Walk
 pub mod Runs
 pub mod InRange
 pub mod Laid
 pub mod Decoding
+pub mod Reread
+pub mod RowsBack
+pub mod GivenBack
