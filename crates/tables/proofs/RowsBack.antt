@@ -17,7 +17,7 @@ use Rattle.tables.specs.declared.model.Partition.{Partition}
 use Rattle.tables.specs.declared.model.Task.{Task}
 use Rattle.tables.specs.declared.model.Link.{Link}
 use Rattle.tables.specs.Kinds.{within, when}
-use Rattle.tables.specs.RowKinds.{partition-kind, task-kind, link-kind, partition-widths, task-widths, link-widths, task-in-range, task-fields, count-in, comes-before, rises, no-link, picos, requests}
+use Rattle.tables.specs.RowKinds.{partition-kind, task-kind, link-kind, partition-widths, task-widths, link-widths, task-in-range, task-fields, count-in, comes-before, rises, no-link, as-picos, as-requests}
 use Rattle.tables.specs.Ranges.{Period}
 use Rattle.tables.specs.Layout.{paired, Task-fits, Link-fits, Name-fits, Rising, Rising-after}
 use Rattle.tables.proofs.InRange.{range-kept}
@@ -38,7 +38,7 @@ partition-back p name period fits =
     let e = fields partition-widths vs 6 fit refl in
     let e0 = field-at partition-widths vs 6 0 44 (omega arith) ∙ ap (λ l. getD l 0 0) e in
     let e1 = field-at partition-widths vs 6 44 4 (omega arith) ∙ ap (λ l. getD l 1 0) e in
-    record { long = refl; value = λ i. record { period = picos (e0 i) }; name = e1; ok = fits .good }
+    record { long = refl; value = λ i. record { period = as-picos (e0 i) }; name = e1; ok = fits .good }
 
 pub partitions-clear : (parts : ℕ) (ps : List Partition) (ns : List (List ℕ)) (before : List (Partition × List ℕ)) → All (λ p. Period (p .period .0)) ps → Clear partition-kind parts before (paired ps ns)
 partitions-clear parts [] ns before h = tt
@@ -117,10 +117,10 @@ module _ (p : ℕ) (period deadline c0 c1 c2 c3 : Picos) (h0 h1 h2 h3 : Requests
         long = refl;
         value = λ i. record {
           partition = e0 i;
-          period = picos (e1 i);
-          deadline = picos (e2 i);
-          execution = picos (e3 i) ∷ picos (e4 i) ∷ picos (e5 i) ∷ picos (e6 i) ∷ [];
-          requests = requests (e7 i) ∷ requests (e8 i) ∷ requests (e9 i) ∷ requests (e10 i) ∷ [];
+          period = as-picos (e1 i);
+          deadline = as-picos (e2 i);
+          execution = as-picos (e3 i) ∷ as-picos (e4 i) ∷ as-picos (e5 i) ∷ as-picos (e6 i) ∷ [];
+          requests = as-requests (e7 i) ∷ as-requests (e8 i) ∷ as-requests (e9 i) ∷ as-requests (e10 i) ∷ [];
         };
         name = e11;
         ok = fits .good;

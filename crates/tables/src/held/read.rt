@@ -2,6 +2,7 @@
 ghost use mathlib.Core.Path.{_≡_};
 ghost use Rattle.std.specs.Results.{Cases};
 ghost use Rattle.tables.specs.Reading.{Accepted, Refused, Laid-out, One-file, Given-back};
+ghost use Rattle.tables.specs.SmallFiles.{Small-files};
 ghost use Rattle.tables.specs.Tabled.{tabled};
 use super::super::link_row::LinkRow;
 use super::super::model::Link;
@@ -23,6 +24,7 @@ impl Tables {
         ensures laid { λ _. ⌜ Laid-out ⌝ }
         ensures alone { λ _. ⌜ One-file ⌝ }
         ensures back { λ _. ⌜ Given-back ⌝ }
+        ensures small { λ _. ⌜ Small-files ⌝ }
     {
         contents(room, file)
     }
