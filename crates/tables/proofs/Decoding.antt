@@ -31,12 +31,15 @@ use Rattle.tables.proofs.Laid.{laid-out, head-sound, partitions-ran, tasks-ran
 then-err : {X Y : Type 0} {q : Result X (ℕ × ℕ)} (f : X → Result Y (ℕ × ℕ)) {x : ℕ × ℕ} → q ≡ Err x → and-then q f ≡ Err x
 then-err f e = ap (λ q. and-then q f) e
 
-then-ok : {X Y : Type 0} {q : Result X (ℕ × ℕ)} (f : X → Result Y (ℕ × ℕ)) {x : X} → q ≡ Ok x → and-then q f ≡ f x
+pub then-ok : {X Y : Type 0} {q : Result X (ℕ × ℕ)} (f : X → Result Y (ℕ × ℕ)) {x : X} → q ≡ Ok x → and-then q f ≡ f x
 then-ok f e = ap (λ q. and-then q f) e
 
 -- the same of a reader that has the file as `seen` and stands where we know
 pub moved : {R : Type 0} (k : Kind R) (parts n : ℕ) (xs : List R) (to : ℕ) (seen file : List ℕ) → seen ≡ file → (o o′ : ℕ) → o ≡ o′ → Held k seen parts n o xs to → Held k file parts n o′ xs to
 moved k parts n xs to seen file e o o′ f h = subst (λ p. Held k file parts n p xs to) f (subst (λ s. Held k s parts n o xs to) e h)
+
+pub refused-at : {R : Type 0} (k : Kind R) (parts n : ℕ) (seen file : List ℕ) → seen ≡ file → (o o′ : ℕ) → o ≡ o′ → (e : Refusal) → Refused-rows k seen parts n o e → Refused-rows k file parts n o′ e
+refused-at k parts n seen file s o o′ f e h = subst (λ p. Refused-rows k file parts n p e) f (subst (λ g. Refused-rows k g parts n o e) s h)
 
 pub moved-head : (h : Header) (to : ℕ) (seen file : List ℕ) → seen ≡ file → (o : ℕ) → o ≡ 0 → Headed seen o h to → Headed file 0 h to
 moved-head h to seen file e o f q = subst (λ p. Headed file p h to) f (subst (λ s. Headed s o h to) e q)

@@ -28,7 +28,7 @@ within-parts low high n e = let p = and-parts (leb low n) (leb n high) e in (leb
 pub none-unless : (b : Bool) (f : Refusal) (q : Option Refusal) → when (not b) f q ≡ None → (b ≡ true) × (q ≡ None)
 none-unless b f q e = let p = none-when (not b) f q e in (not-false b (p .0), p .1)
 
-times-within : (low high : ℕ) (xs : List Picos) → all-pass (λ x. within low high (x .0)) xs ≡ true → (q : ℕ) → getD xs q no-time .0 ≤ high
+pub times-within : (low high : ℕ) (xs : List Picos) → all-pass (λ x. within low high (x .0)) xs ≡ true → (q : ℕ) → getD xs q no-time .0 ≤ high
 times-within low high [] e q = omega arith
 times-within low high (x ∷ xs) e zero = within-parts low high (x .0) (and-parts _ _ e .0) .1
 times-within low high (x ∷ xs) e (suc q) = times-within low high xs (and-parts _ _ e .1) q
@@ -47,7 +47,7 @@ pub record Task-kept (parts : ℕ) (t : Task) : Type 0 where
   pub due : Period (t .period .0) × ((1 ≤ t .deadline .0) × (t .deadline .0 ≤ 10 ^ 13))
   pub job : (q : ℕ) → (execution-on t q ≤ 10 ^ 13) × (requests-on t q ≤ 10 ^ 6)
 
-range-kept : (t : Task) → task-in-range t ≡ true → (Period (t .period .0) × ((1 ≤ t .deadline .0) × (t .deadline .0 ≤ 10 ^ 13))) × ((q : ℕ) → (execution-on t q ≤ 10 ^ 13) × (requests-on t q ≤ 10 ^ 6))
+pub range-kept : (t : Task) → task-in-range t ≡ true → (Period (t .period .0) × ((1 ≤ t .deadline .0) × (t .deadline .0 ≤ 10 ^ 13))) × ((q : ℕ) → (execution-on t q ≤ 10 ^ 13) × (requests-on t q ≤ 10 ^ 6))
 range-kept t e =
     let times = all-pass (λ x. within 1 10000000000000 (x .0)) (t .execution) in
     let counts = all-pass (λ x. within 0 1000000 (x .0)) (t .requests) in

@@ -1,8 +1,12 @@
 pub mod Replaced
 pub mod Passed
 pub mod Packing
+pub mod Unpacking
 pub mod Walk
 pub mod Runs
 pub mod InRange
 pub mod Laid
 pub mod Decoding
+pub mod Reread
+pub mod RowsBack
+pub mod GivenBack

@@ -24,6 +24,9 @@ after-is b n (d ∷ ds) =
 pub number-append : (b : ℕ) (xs ys : List ℕ) → number b (xs ++ ys) ≡ number b xs * b ^ length ys + number b ys
 number-append b xs ys = numberAfter-append b 0 xs ys ∙ after-is b (number b xs) ys
 
+pub number-cons : (d : ℕ) (bs : List ℕ) → number 256 (d ∷ bs) ≡ d * 256 ^ length bs + number 256 bs
+number-cons d bs = ap (λ x. numberAfter 256 x bs) (omega arith) ∙ after-is 256 d bs
+
 pub octet : (k : ℕ) → 256 ^ k ≡ 2 ^ (8 * k)
 octet zero = refl
 octet (suc k) =
@@ -76,7 +79,7 @@ pub pack-unpack : (ws : List ℕ) (n : ℕ) → pack ws (unpack ws n) ≡ n % 2 
 pack-unpack [] n = sym (mod-one n)
 pack-unpack (w ∷ ws) n = ap (λ x. n / 2 ^ bits ws % 2 ^ w * 2 ^ bits ws + x) (pack-unpack ws n) ∙ sym (mod-pow-add n w (bits ws))
 
-unpack-high : (ws : List ℕ) (h n : ℕ) → unpack ws (h * 2 ^ bits ws + n) ≡ unpack ws n
+pub unpack-high : (ws : List ℕ) (h n : ℕ) → unpack ws (h * 2 ^ bits ws + n) ≡ unpack ws n
 unpack-high [] h n = refl
 unpack-high (w ∷ ws) h n =
     let e : (0 + w) + bits ws ≡ w + bits ws = omega arith in
@@ -86,7 +89,7 @@ unpack-high (w ∷ ws) h n =
     ap (λ x. unpack ws (x + n)) (ap (λ x. h * x) (pow-add 2 w (bits ws)) ∙ sym (mul-assoc h (2 ^ w) (2 ^ bits ws))) ∙ unpack-high ws (h * 2 ^ w) n in
     λ i. first i ∷ rest i
 
-bits-octets : (k : ℕ) → bits (replicate k 8) ≡ 8 * k
+pub bits-octets : (k : ℕ) → bits (replicate k 8) ≡ 8 * k
 bits-octets zero = refl
 bits-octets (suc k) = omega (arith, bits-octets k)
 

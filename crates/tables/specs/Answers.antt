@@ -1,5 +1,6 @@
 -- What the reader's calls answer. Assumes nothing.
 use mathlib.Core.Path.{_≡_}
+use mathlib.Core.Bool.{true}
 use mathlib.Core.List.{List, [], map}
 use Prim.Native.Nat.{ℕ, _+_, _≤_}
 use lib.ListN.{length}
@@ -28,6 +29,7 @@ pub record Head-bad (file : List ℕ) (o : ℕ) (e : Refusal) (to : ℕ) : Type 
 -- the row at o is sound, and w has its parts; the reader stands at `to` then
 pub record Found {R : Type 0} (k : Kind R) (file : List ℕ) (parts o : ℕ) (before : List R) (w : FileRow) (to : ℕ) : Type 0 where
   pub sound : row-fault k file parts o before ≡ None
+  pub sort : k .handed w ≡ true
   pub fixed : fixed-of w ≡ fixed-at k file o
   pub name : name-of w ≡ name-at k file o
   pub offset : offset-of w ≡ o

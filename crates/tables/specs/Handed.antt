@@ -1,4 +1,5 @@
 -- A row as it is handed out: its offset, its fixed part and its name, where it has one. Assumes nothing.
+use mathlib.Core.Bool.{Bool, true, false}
 use mathlib.Core.List.{List, []}
 use Prim.Native.Nat.{ℕ}
 use Rattle.std.specs.declared.option.Option.{Option}
@@ -26,3 +27,18 @@ abbrev pub name-of : FileRow → List ℕ
 name-of (row.Partition at fixed name) = name .now
 name-of (row.Task at fixed name) = name .now
 name-of (row.Link at fixed) = []
+
+abbrev pub is-partition-row : FileRow → Bool
+is-partition-row (row.Partition at fixed name) = true
+is-partition-row (row.Task at fixed name) = false
+is-partition-row (row.Link at fixed) = false
+
+abbrev pub is-task-row : FileRow → Bool
+is-task-row (row.Partition at fixed name) = false
+is-task-row (row.Task at fixed name) = true
+is-task-row (row.Link at fixed) = false
+
+abbrev pub is-link-row : FileRow → Bool
+is-link-row (row.Partition at fixed name) = false
+is-link-row (row.Task at fixed name) = false
+is-link-row (row.Link at fixed) = true

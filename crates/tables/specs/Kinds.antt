@@ -11,6 +11,7 @@ use Rattle.std.specs.declared.result.Result.the-variants.{Ok, Err}
 use Rattle.terms.specs.declared.refusal.Refusal.{Refusal}
 use Rattle.terms.specs.declared.refusal.Refusal.the-variants.{Incomplete, BadName}
 use Rattle.terms.specs.Refusals.{told}
+use Rattle.tables.specs.declared.file_row.FileRow.{FileRow}
 
 -- a kind of row
 pub record Kind (R : Type 0) : Type 0 where
@@ -23,6 +24,8 @@ pub record Kind (R : Type 0) : Type 0 where
   -- the length of the name that follows a fixed part
   pub name-length : List ℕ → ℕ
   pub name-ok : List ℕ → Bool
+  -- whether a row as it is handed out is of this kind
+  pub handed : FileRow → Bool
   -- the fixed part of a row whose name is so long
   pub fixed : R → ℕ → List ℕ
 

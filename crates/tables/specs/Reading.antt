@@ -7,7 +7,7 @@ use Rattle.std.specs.declared.result.Result.the-variants.{Ok, Err}
 use Rattle.terms.specs.declared.refusal.Refusal.{Refusal}
 use Rattle.terms.specs.Refusals.{told}
 use Rattle.tables.specs.Contents.{Book, decode}
-use Rattle.tables.specs.Layout.{Tabled, tables-of, names-of, layout}
+use Rattle.tables.specs.Layout.{Tabled, Named, In-range, tables-of, names-of, layout}
 
 -- the file is accepted, and t are its tables
 pub record Accepted (file : List ℕ) (t : Tabled) : Type 0 where
@@ -29,3 +29,9 @@ abbrev pub One-file : Type 0
 One-file =
     (f g : List ℕ) (b c : Book) → Under 256 f → Under 256 g → decode f ≡ Ok b → decode g ≡ Ok c
     → tables-of b ≡ tables-of c → names-of b ≡ names-of c → f ≡ g
+
+-- the layout of tables and names in range is accepted, and gives them back
+abbrev pub Given-back : Type 0
+Given-back =
+    (t : Tabled) (n : Named) → In-range t n
+    → (b : Book) × (decode (layout t n) ≡ Ok b) × (tables-of b ≡ t) × (names-of b ≡ n)

@@ -12,13 +12,14 @@ use Rattle.tables.specs.declared.model.Partition.{Partition}
 use Rattle.tables.specs.declared.model.Task.{Task}
 use Rattle.tables.specs.declared.model.Link.{Link}
 use Rattle.tables.specs.Packed.{bits-at, pack, octets}
+use Rattle.tables.specs.Handed.{is-partition-row, is-task-row, is-link-row}
 use Rattle.tables.specs.Kinds.{Kind, good-name, all-pass, within, when}
 
-abbrev pub picos : ℕ → Picos
-picos n = record { 0 = n }
+abbrev pub as-picos : ℕ → Picos
+as-picos n = record { 0 = n }
 
-abbrev pub requests : ℕ → Requests
-requests n = record { 0 = n }
+abbrev pub as-requests : ℕ → Requests
+as-requests n = record { 0 = n }
 
 abbrev pub partition-widths : List ℕ
 partition-widths = 44 ∷ 4 ∷ []
@@ -33,10 +34,11 @@ link-widths = 4 ∷ 4 ∷ []
 abbrev pub partition-kind : Kind Partition
 partition-kind = record {
   width = 6;
-  value = λ b. record { period = picos (bits-at 0 44 b) };
+  value = λ b. record { period = as-picos (bits-at 0 44 b) };
   fault = λ at parts before p. when (not (within 1000000000 10000000000000 (p .period .0))) (FieldRange at) None;
   name-length = bits-at 44 4;
   name-ok = good-name;
+  handed = is-partition-row;
   fixed = λ p n. octets 6 (pack partition-widths (p .period .0 ∷ n ∷ []));
 }
 
@@ -44,10 +46,10 @@ partition-kind = record {
 abbrev pub task-of : List ℕ → Task
 task-of b = record {
   partition = bits-at 0 4 b;
-  period = picos (bits-at 4 44 b);
-  deadline = picos (bits-at 48 44 b);
-  execution = picos (bits-at 92 44 b) ∷ picos (bits-at 136 44 b) ∷ picos (bits-at 180 44 b) ∷ picos (bits-at 224 44 b) ∷ [];
-  requests = requests (bits-at 268 20 b) ∷ requests (bits-at 288 20 b) ∷ requests (bits-at 308 20 b) ∷ requests (bits-at 328 20 b) ∷ [];
+  period = as-picos (bits-at 4 44 b);
+  deadline = as-picos (bits-at 48 44 b);
+  execution = as-picos (bits-at 92 44 b) ∷ as-picos (bits-at 136 44 b) ∷ as-picos (bits-at 180 44 b) ∷ as-picos (bits-at 224 44 b) ∷ [];
+  requests = as-requests (bits-at 268 20 b) ∷ as-requests (bits-at 288 20 b) ∷ as-requests (bits-at 308 20 b) ∷ as-requests (bits-at 328 20 b) ∷ [];
 }
 
 abbrev pub task-in-range : Task → Bool
@@ -76,6 +78,7 @@ task-kind = record {
       (when (leb 16 (count-in (t .partition) before)) (PartitionFull at) None));
   name-length = bits-at 348 4;
   name-ok = good-name;
+  handed = is-task-row;
   fixed = λ t n. octets 44 (pack task-widths (task-fields t ++ n ∷ []));
 }
 
@@ -100,5 +103,6 @@ link-kind = record {
       (when (not (ltb (l .first) (l .second) && rises before l)) (LinkOrder at) None);
   name-length = λ b. 0;
   name-ok = λ name. true;
+  handed = is-link-row;
   fixed = λ l n. octets 1 (pack link-widths (l .first ∷ l .second ∷ []));
 }

@@ -16,6 +16,8 @@ mod search;
 mod task_row;
 pub mod timing;
 mod timing_checks;
+#[cfg(test)]
+mod tests;
 
 pub use file_row::FileRow;
 pub use header::Header;

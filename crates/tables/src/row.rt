@@ -1,5 +1,6 @@
 //! What the reader asks of a kind of row.
 ghost use mathlib.Core.Path.{_≡_};
+ghost use mathlib.Core.Bool.{true};
 ghost use lib.ListN.{length};
 ghost use Rattle.tables.specs.Kinds.{Kind};
 ghost use Rattle.tables.specs.Handed.{fixed-of, name-of, offset-of};
@@ -38,9 +39,10 @@ pub trait Row: Sized {
     fn is_name(name: &[u8]) -> bool
         ensures { λ r. ⌜ r ≡ kind .name-ok (now (name .entry)) ⌝ };
 
-    /// The row with these parts.
+    /// The row with these parts, as one of this kind.
     fn handed<'a>(at: usize, fixed: &'a [u8], name: &'a [u8]) -> FileRow<'a>
         requires { ⌜ length (now name) ≡ kind .name-length (now fixed) ⌝ }
+        ensures sort { λ r. ⌜ kind .handed r ≡ true ⌝ }
         ensures offset { λ r. ⌜ offset-of r ≡ at ⌝ }
         ensures fixed { λ r. ⌜ fixed-of r ≡ now (fixed .entry) ⌝ }
         ensures name { λ r. ⌜ name-of r ≡ now (name .entry) ⌝ };

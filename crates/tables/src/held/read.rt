@@ -1,7 +1,8 @@
 //! Tables from a file.
 ghost use mathlib.Core.Path.{_≡_};
 ghost use Rattle.std.specs.Results.{Cases};
-ghost use Rattle.tables.specs.Reading.{Accepted, Refused, Laid-out, One-file};
+ghost use Rattle.tables.specs.Reading.{Accepted, Refused, Laid-out, One-file, Given-back};
+ghost use Rattle.tables.specs.SmallFiles.{Small-files};
 ghost use Rattle.tables.specs.Tabled.{tabled};
 use super::super::link_row::LinkRow;
 use super::super::model::Link;
@@ -17,11 +18,13 @@ use terms::refusal::Refusal;
 
 impl Tables {
     /// The tables of a file, or its first fault. An accepted file is the layout of its tables and names, so no other
-    /// file has both.
+    /// file has both; and every layout of tables and names in range is accepted and gives them back.
     pub fn read(room: Room, file: &[u8]) -> Result<Tables, Refusal>
         ensures answer { λ r. ⌜ Cases r (λ t. Accepted (now (file .entry)) (tabled t)) (λ e. Refused (now (file .entry)) e) ⌝ }
         ensures laid { λ _. ⌜ Laid-out ⌝ }
         ensures alone { λ _. ⌜ One-file ⌝ }
+        ensures back { λ _. ⌜ Given-back ⌝ }
+        ensures small { λ _. ⌜ Small-files ⌝ }
     {
         contents(room, file)
     }
