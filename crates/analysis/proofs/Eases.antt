@@ -78,13 +78,13 @@ module _ (s : State) (ts : List Task) where
     busy-less q t h =
         subst (λ n. sum-where n (on with-tasks q) (λ k. other-jobs (task with-tasks k) t * requests-on (task with-tasks k) q) ≤ busy s q t) (sym long)
         (sum-under (on with-tasks q) (on s q) (λ k. other-jobs (task with-tasks k) t * requests-on (task with-tasks k) q) (λ k. other-jobs (task s k) t * requests-on (task s k) q) (length (s .tasks))
-          (λ k _. on-same q k) (λ k below. mul-le-mul (other-fewer k t below) (eased k .requests q h)))
+        (λ k _. on-same q k) (λ k below. mul-le-mul (other-fewer k t below) (eased k .requests q h)))
 
     others-less : (p q t : ℕ) → q < 4 → others with-tasks p q t ≤ others s p q t
     others-less p q t h =
         elim (eqb q p) as (λ b. cond b 0 (busy with-tasks q t) ≤ cond b 0 (busy s q t)) [
-          true ↦ omega arith
-        | false ↦ busy-less q t h
+          | true ↦ omega arith
+          | false ↦ busy-less q t h
         ]
 
     module _ (i : ℕ) (within : i < length (s .tasks)) (p : Core) (t : ℕ) where

@@ -12,16 +12,16 @@ module _ (f : ℕ → ℕ) (rises : (t s : ℕ) → t ≤ s → f t ≤ f s) (mo
   climb : (left t : ℕ) → Under f t → t ≤ top → top ≤ t + left → (s : ℕ) × Is-time f most s
   climb zero t u below reach =
       elim (cases-eq (f t) t) [
-        inl e ↦ (t, under-found f most t u e (omega arith))
-      | inr ne ↦ absurd (ne (omega (arith, u .grows, rises t top below, kept)))
+        | inl e ↦ (t, under-found f most t u e (omega arith))
+        | inr ne ↦ absurd (ne (omega (arith, u .grows, rises t top below, kept)))
       ]
   climb (suc left) t u below reach =
       elim (cases-eq (f t) t) [
-        inl e ↦ (t, under-found f most t u e (omega arith))
-      | inr ne ↦
-          let up = u .grows in
-          let over = rises t top below in
-          climb left (f t) (under-step f rises t (f t) refl u) (omega (arith, kept)) (omega arith)
+        | inl e ↦ (t, under-found f most t u e (omega arith))
+        | inr ne ↦
+            let up = u .grows in
+            let over = rises t top below in
+            climb left (f t) (under-step f rises t (f t) refl u) (omega (arith, kept)) (omega arith)
       ]
 
   pub settles : (s : ℕ) × Is-time f most s

@@ -1,3 +1,7 @@
 pub mod Allocations
 pub mod Outcomes
 pub mod Retimings
+pub mod Timely
+pub mod OnlyOne
+pub mod Lateness
+pub mod Rehearsals

@@ -71,8 +71,8 @@ module _ (s : State) (i : ℕ) (n : Numbers) (t : Timing) (has : Timed n t) wher
       let tasks = ap (λ (m : Tabled). m .tasks) (h .2) in
       let there = ap (λ l. getD l i no-task) tasks ∙ getD-set-same ts i y no-task (h .0) in
       let again : set (mid .tasks) i (timed (getD (mid .tasks) i no-task) former) ≡ ts =
-          ap (λ (z : Task). set (mid .tasks) i (timed z former)) there ∙ ap (λ l. set l i (timed y former)) tasks
-          ∙ set-set ts i y (timed y former) ∙ ap (λ (z : Task). set ts i z) (back-task x t former (h .1)) ∙ set-getD ts i no-task
+      ap (λ (z : Task). set (mid .tasks) i (timed z former)) there ∙ ap (λ l. set l i (timed y former)) tasks
+      ∙ set-set ts i y (timed y former) ∙ ap (λ (z : Task). set ts i z) (back-task x t former (h .1)) ∙ set-getD ts i no-task
       in
       ap (λ m. over m (s .placement)) (back .2)
       ∙ ap (λ l. record { cores = mid .cores; partitions = mid .partitions; tasks = l; links = mid .links; placement = s .placement }) again

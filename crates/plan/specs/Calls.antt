@@ -49,20 +49,24 @@ adopt-asks s entries =
 abbrev pub place-asks : State → ℕ → ℕ → Asked
 place-asks s partition core =
     cond (ltb partition (length (s .partitions)))
-      (cond (ltb core (s .cores)) (Ok (replaced s (set (s .placement) partition (numbered core)))) (Err (10, core)))
-      (Err (9, partition))
+    (cond (ltb core (s .cores)) (Ok (replaced s (set (s .placement) partition (numbered core)))) (Err (10, core)))
+    (Err (9, partition))
 
 -- withdraw: the partition exists and is placed
 abbrev pub withdraw-asks : State → ℕ → Asked
 withdraw-asks s partition =
     cond (ltb partition (length (s .partitions)))
-      (cond (isSome (core-at (s .placement) partition)) (Ok (replaced s (set (s .placement) partition None))) (Err (12, partition)))
-      (Err (9, partition))
+    (cond (isSome (core-at (s .placement) partition)) (Ok (replaced s (set (s .placement) partition None))) (Err (12, partition)))
+    (Err (9, partition))
 
 -- the state with other numbers for a task
 abbrev pub with-numbers : State → ℕ → Numbers → State
 with-numbers s i n = record {
-  cores = s .cores; partitions = s .partitions; tasks = set (s .tasks) i (retimed (getD (s .tasks) i no-task) n); links = s .links; placement = s .placement
+  cores = s .cores;
+  partitions = s .partitions;
+  tasks = set (s .tasks) i (retimed (getD (s .tasks) i no-task) n);
+  links = s .links;
+  placement = s .placement;
 }
 
 -- refused with 14 at the position of a number out of range

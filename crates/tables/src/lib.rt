@@ -14,10 +14,10 @@ pub mod room;
 mod row;
 mod search;
 mod task_row;
-pub mod timing;
-mod timing_checks;
 #[cfg(test)]
 mod tests;
+pub mod timing;
+mod timing_checks;
 
 pub use file_row::FileRow;
 pub use header::Header;
