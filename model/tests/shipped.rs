@@ -134,6 +134,9 @@ fn the_day_of_the_station() {
     assert_eq!(harder, [59, 60, 71, 72]);
     assert_eq!(before, plan);
 
+    assert_eq!((changes.len(), log.iter().filter(|outcome| outcome.verdict.is_ok()).count()), (33, 21));
+    assert_eq!(log[32].times, log[31].times);
+
     // in the end all numbers are those of the morning, and so its allocation is accepted
     let alloc = fs::read(top().join("example/station.alloc")).unwrap();
     assert_eq!(changes[0], Change::Adopt { allocation: alloc.clone() });
