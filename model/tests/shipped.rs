@@ -137,6 +137,21 @@ fn the_day_of_the_station() {
     assert_eq!((changes.len(), log.iter().filter(|outcome| outcome.verdict.is_ok()).count()), (33, 21));
     assert_eq!(log[32].times, log[31].times);
 
+    // what makes the withdrawals of the morning possible, and the deadline late
+    let until = |last: usize, without: &[usize]| {
+        let kept = lines.iter().zip(&changes).filter(|(line, _)| **line <= last && !without.contains(line));
+        let kept: Vec<Change> = kept.map(|(_, change)| change.clone()).collect();
+        let (plan, log) = rehearse(&tab, &arbiter, &kept).unwrap();
+        (plan, log.last().unwrap().verdict.map_err(|refusal| (refusal.number, refusal.tells)))
+    };
+    assert_eq!(until(42, &eased).1, Ok(()));
+    assert_eq!(until(42, &[39]).1, Err((15, 11)));
+    assert_eq!(until(45, &eased).1, Err((15, 3)));
+    assert_eq!(until(52, &[42]).1, Err((15, 7)));
+    assert_eq!(until(52, &[45]).1, Ok(()));
+    assert_eq!(until(67, &[]).1, Ok(()));
+    assert_eq!(until(67, &[66]).1, Err((15, 7)));
+
     // in the end all numbers are those of the morning, and so its allocation is accepted
     let alloc = fs::read(top().join("example/station.alloc")).unwrap();
     assert_eq!(changes[0], Change::Adopt { allocation: alloc.clone() });
