@@ -148,7 +148,7 @@ fn the_day_of_the_station() {
     assert_eq!(until(42, &[39]).1, Err((15, 11)));
     assert_eq!(until(45, &eased).1, Err((15, 3)));
     assert_eq!(until(52, &[42]).1, Err((15, 7)));
-    assert_eq!(until(52, &[45]).1, Ok(()));
+    assert_eq!(until(52, &[45, 48]).1, Ok(()));
     assert_eq!(until(67, &[]).1, Ok(()));
     assert_eq!(until(67, &[66]).1, Err((15, 7)));
 
