@@ -178,6 +178,59 @@ pub fn station(n: usize) -> Lesser {
     )
 }
 
+/// What stands at the bottom of a pile.
+#[derive(Clone, Copy, Debug, PartialEq, Eq)]
+pub enum Bottom {
+    RequestDriven,
+    JobDriven,
+    /// the lesser of both
+    Lesser,
+}
+
+/// A pile told by its settings: what stands at the bottom, and interval and length of refresh, if it is there.
+#[derive(Clone, Copy, Debug, PartialEq, Eq)]
+pub struct Pile {
+    pub bottom: Bottom,
+    pub l: u128,
+    pub conflict: u128,
+    pub reorder: u128,
+    pub refresh: Option<(u128, u128)>,
+}
+
+impl Pile {
+    pub const STATION: Pile =
+        Pile { bottom: Bottom::Lesser, l: 48_750, conflict: 60_000, reorder: 5_000, refresh: None };
+
+    /// The six kinds with the settings of our station: each bottom, without refresh and with it.
+    pub fn kinds() -> Vec<Pile> {
+        let mut all = vec![];
+        for bottom in [Bottom::RequestDriven, Bottom::JobDriven, Bottom::Lesser] {
+            for refresh in [None, Some((7_800_000, 350_000))] {
+                all.push(Pile { bottom, refresh, ..Pile::STATION });
+            }
+        }
+        all
+    }
+
+    /// The arbiter for a computer with n cores, or the refusal of the first setting that is out of range, lowest
+    /// arbiter first.
+    pub fn arbiter(&self, n: usize) -> Result<Box<dyn Arbiter>, Refusal> {
+        let Pile { bottom, l, conflict, reorder, refresh } = *self;
+        let below: Box<dyn Arbiter> = match bottom {
+            Bottom::RequestDriven => Box::new(RequestDriven::new(n, l, conflict, reorder)?),
+            Bottom::JobDriven => Box::new(JobDriven::new(n, l, conflict)?),
+            Bottom::Lesser => Box::new(Lesser(
+                Box::new(RequestDriven::new(n, l, conflict, reorder)?),
+                Box::new(JobDriven::new(n, l, conflict)?),
+            )),
+        };
+        match refresh {
+            None => Ok(below),
+            Some((interval, length)) => Ok(Box::new(Refresh::new(interval, length, below)?)),
+        }
+    }
+}
+
 #[cfg(test)]
 mod tests {
     use super::*;
@@ -265,6 +318,20 @@ mod tests {
         assert_eq!(pile.bound(&question), 700_001);
         let high = Refresh::new(7_800_000, 350_000, Box::new(Constant(CEILING))).unwrap();
         assert_eq!(high.bound(&question), CEILING);
+    }
+
+    #[test]
+    fn piles_by_their_settings() {
+        let mut question = ask(0, 1_000, [0, 2_000, 0, 0], &[]);
+        question.t = 7_800_001;
+        let answers: Vec<u128> = Pile::kinds().iter().map(|pile| pile.arbiter(2).unwrap().bound(&question)).collect();
+        assert_eq!(answers, [53_750_000, 54_450_000, 97_500_000, 98_200_000, 53_750_000, 54_450_000]);
+        assert_eq!(Pile::STATION.arbiter(2).unwrap().bound(&question), station(2).bound(&question));
+        let wrong = Pile { reorder: 100_001, refresh: Some((0, 0)), ..Pile::STATION };
+        let at = |pile: Pile| pile.arbiter(4).err().map(|refusal| refusal.tells);
+        assert_eq!(at(wrong), Some(3));
+        assert_eq!(at(Pile { bottom: Bottom::JobDriven, ..wrong }), Some(0));
+        assert_eq!(at(Pile { bottom: Bottom::JobDriven, refresh: None, ..wrong }), None);
     }
 
     #[test]

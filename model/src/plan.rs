@@ -229,6 +229,13 @@ impl Plan {
         changed.times(arbiter, buffer)
     }
 
+    /// The same with a buffer of just the length needed.
+    pub fn trial_times(&self, arbiter: &dyn Arbiter, partition: usize, core: usize) -> Result<Vec<u128>, Refusal> {
+        let mut times = vec![0; self.tables.tasks.len()];
+        self.trial(arbiter, partition, core, &mut times)?;
+        Ok(times)
+    }
+
     /// The text of the listing: number and time of every task, one line each.
     pub fn listing_text(&self, arbiter: &dyn Arbiter) -> Vec<u8> {
         let lines = self.all_times(arbiter).into_iter().enumerate().map(|(i, time)| format!("{i} {time}\n"));

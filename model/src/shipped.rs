@@ -1,13 +1,17 @@
-//! The files of the shipped example that are made from its description, and small damaged or late inputs.
+//! The files of the shipped example that are made from its description and its changes, and small damaged or late
+//! inputs.
 
 use crate::description;
 use crate::file;
 use crate::plan::UNPLACED;
+use crate::rehearsal::rehearse_text;
 use crate::tables::*;
 use crate::text::{check_text, summary_text, MOST_ALLOCATION_BYTES, MOST_TABLE_BYTES};
 
 /// Where the description stands.
 pub const DESCRIPTION: &str = "example/station.txt";
+/// Where the changes of a day stand.
+pub const CHANGES: &str = "example/station.changes";
 
 const MS: u128 = 1_000_000_000;
 
@@ -138,25 +142,31 @@ fn head(bytes: &[u8], most: usize) -> &[u8] {
     &bytes[..bytes.len().min(most)]
 }
 
-/// All files made from the description, each with its place below the top folder.
-pub fn files(text: &str) -> Result<Vec<(String, Vec<u8>)>, String> {
+/// All files made from the description and the changes, each with its place below the top folder.
+pub fn files(text: &str, changes: &[u8]) -> Result<Vec<(String, Vec<u8>)>, String> {
     let station = description::parse(text)?;
+    let changes = changes.to_vec();
     let tab = file::write(&station.tables);
     let alloc = station.allocation.clone();
     let check = check_text(&tab, &alloc);
     let summary = summary_text(&tab, &alloc);
+    let rehearsal = rehearse_text(&tab, &changes);
     let mut all: Vec<(String, Vec<u8>)> = vec![];
     for (place, bytes) in [
         ("example/station.tab", &tab),
         ("example/station.alloc", &alloc),
         ("example/check.stdout", &check),
         ("example/summary.stdout", &summary),
+        ("example/rehearse.stdout", &rehearsal),
         ("crates/check/data/station.tab", &tab),
         ("crates/check/data/station.alloc", &alloc),
         ("crates/check/stdout", &check),
         ("crates/summary/data/station.tab", &tab),
         ("crates/summary/data/station.alloc", &alloc),
         ("crates/summary/stdout", &summary),
+        ("crates/rehearse/data/station.tab", &tab),
+        ("crates/rehearse/data/station.changes", &changes),
+        ("crates/rehearse/stdout", &rehearsal),
     ] {
         all.push((place.to_string(), bytes.clone()));
     }

@@ -1,9 +1,11 @@
 //! The shipped example is what its description gives, and the programs print it.
 
 use model::arbiter::{station, Arbiter, JobDriven, Question, RequestDriven};
+use model::changes::{self, Change};
 use model::description::{parse, Station};
 use model::plan::Plan;
-use model::shipped::{files, DESCRIPTION};
+use model::rehearsal::rehearse;
+use model::shipped::{files, CHANGES, DESCRIPTION};
 use std::path::Path;
 use std::process::Command;
 use std::{env, fs};
@@ -15,7 +17,8 @@ fn top() -> &'static Path {
 #[test]
 fn every_file_is_current() {
     let text = fs::read_to_string(top().join(DESCRIPTION)).unwrap();
-    for (place, bytes) in files(&text).unwrap() {
+    let changes = fs::read(top().join(CHANGES)).unwrap();
+    for (place, bytes) in files(&text, &changes).unwrap() {
         assert!(fs::read(top().join(&place)).unwrap() == bytes, "{place} is not current");
     }
 }
@@ -95,13 +98,77 @@ fn printed(program: &str, args: &[&Path]) -> Vec<u8> {
     output.stdout
 }
 
+/// The day has changes of every kind, and what its comments say of them holds.
+#[test]
+fn the_day_of_the_station() {
+    let tab = fs::read(top().join("example/station.tab")).unwrap();
+    let script = changes::read(&fs::read(top().join(CHANGES)).unwrap());
+    assert_eq!(script.unread, None);
+    let (lines, changes): (Vec<usize>, Vec<Change>) = script.steps.into_iter().unzip();
+    let arbiter = station(4);
+    let (mut plan, log) = rehearse(&tab, &arbiter, &changes).unwrap();
+
+    let verdicts: Vec<(usize, u32, u128)> = lines
+        .iter()
+        .zip(&log)
+        .filter_map(|(&line, outcome)| outcome.verdict.err().map(|refusal| (line, refusal.number, refusal.tells)))
+        .collect();
+    let late = [(9, 3), (24, 12), (52, 7), (63, 7), (75, 3), (89, 3)];
+    let other = [(15, 9, 8), (18, 10, 4), (21, 14, 0), (28, 11, 30), (48, 12, 2), (78, 13, 7)];
+    let mut said: Vec<(usize, u32, u128)> = late.iter().map(|&(line, task)| (line, 15, task)).collect();
+    said.extend(other);
+    said.sort();
+    assert_eq!(verdicts, said);
+
+    // retimes that ease a task are among the accepted ones, and so are others
+    let mut before = Plan::birth(&tab).unwrap();
+    let mut eased = vec![];
+    let mut harder = vec![];
+    for (k, change) in changes.iter().enumerate() {
+        let eases = before.eases(change);
+        if before.change(&arbiter, change).is_ok() && matches!(change, Change::Retime { .. }) {
+            if eases { &mut eased } else { &mut harder }.push(lines[k]);
+        }
+    }
+    assert_eq!(eased, [31, 32, 35, 36]);
+    assert_eq!(harder, [59, 60, 71, 72]);
+    assert_eq!(before, plan);
+
+    assert_eq!((changes.len(), log.iter().filter(|outcome| outcome.verdict.is_ok()).count()), (33, 21));
+    assert_eq!(log[32].times, log[31].times);
+
+    // what makes the withdrawals of the morning possible, and the deadline late
+    let until = |last: usize, without: &[usize]| {
+        let kept = lines.iter().zip(&changes).filter(|(line, _)| **line <= last && !without.contains(line));
+        let kept: Vec<Change> = kept.map(|(_, change)| change.clone()).collect();
+        let (plan, log) = rehearse(&tab, &arbiter, &kept).unwrap();
+        (plan, log.last().unwrap().verdict.map_err(|refusal| (refusal.number, refusal.tells)))
+    };
+    assert_eq!(until(42, &eased).1, Ok(()));
+    assert_eq!(until(42, &[39]).1, Err((15, 11)));
+    assert_eq!(until(45, &eased).1, Err((15, 3)));
+    assert_eq!(until(52, &[42]).1, Err((15, 7)));
+    assert_eq!(until(52, &[45, 48]).1, Ok(()));
+    assert_eq!(until(67, &[]).1, Ok(()));
+    assert_eq!(until(67, &[66]).1, Err((15, 7)));
+
+    // in the end all numbers are those of the morning, and so its allocation is accepted
+    let alloc = fs::read(top().join("example/station.alloc")).unwrap();
+    assert_eq!(changes[0], Change::Adopt { allocation: alloc.clone() });
+    plan.adopt(&arbiter, &alloc).unwrap();
+    assert_eq!(plan.listing_text(&arbiter), fs::read(top().join("example/check.stdout")).unwrap());
+}
+
 #[test]
 fn programs_print_what_is_shipped() {
     let (judge, summarize) = (env!("CARGO_BIN_EXE_judge"), env!("CARGO_BIN_EXE_summarize"));
+    let play_day = env!("CARGO_BIN_EXE_play-day");
     let example = top().join("example");
     let (tab, alloc) = (example.join("station.tab"), example.join("station.alloc"));
     assert_eq!(printed(judge, &[&tab, &alloc]), fs::read(example.join("check.stdout")).unwrap());
     assert_eq!(printed(summarize, &[&tab, &alloc]), fs::read(example.join("summary.stdout")).unwrap());
+    let changes = example.join("station.changes");
+    assert_eq!(printed(play_day, &[&tab, &changes]), fs::read(example.join("rehearse.stdout")).unwrap());
 
     let refused = example.join("refused");
     let mut count = 0;
@@ -121,6 +188,8 @@ fn programs_print_what_is_shipped() {
     // a missing file counts as empty
     let missing = example.join("there-is-no-such-file");
     assert_eq!(printed(judge, &[&missing, &missing]), b"refused 1 at 0\n");
+    assert_eq!(printed(play_day, &[&missing, &changes]), b"refused 1 at 0\n");
+    assert!(printed(play_day, &[&tab, &missing]).starts_with(b"played 0, accepted 0, refused 0\n0 0\n1 0\n"));
 }
 
 #[test]

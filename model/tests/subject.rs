@@ -4,6 +4,7 @@ use model::arbiter::*;
 use model::file::{self, Writer};
 use model::plan::*;
 use model::refusal::*;
+use model::rehearsal::rehearse_text;
 use model::shipped::{largest, two_cores};
 use model::tables::*;
 use model::text::*;
@@ -79,6 +80,23 @@ fn a_file_byte_by_byte() {
     assert_eq!(tab.len(), 64);
     assert_eq!(file::read(&tab), Ok(said));
     assert_eq!(check_text(&tab, &[255, 1]), b"0 4000000000\n");
+
+    let changes = "\
+        # both on one core, then apart\n\
+        adopt 0 0\n\
+        place 1 1\n\
+        \n\
+        withdraw 2\n\
+        retime 0 20000000000 14000000000 15000000000 4000000000 5000000000 5000000000 1000 1000 1200 1200\n";
+    let said = "\
+        2 accepted\n\
+        3 accepted\n\
+        5 refused 9 at 2\n\
+        6 accepted\n\
+        played 4, accepted 3, refused 1\n\
+        refused 9: 1 times\n\
+        0 4000000000\n";
+    assert_eq!(String::from_utf8(rehearse_text(&tab, changes.as_bytes())).unwrap(), said);
 }
 
 #[test]

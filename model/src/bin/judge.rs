@@ -1,16 +1,8 @@
 //! Prints what the program check prints for a table file and an allocation.
+use model::input::first_bytes;
 use model::text::{check_text, MOST_ALLOCATION_BYTES, MOST_TABLE_BYTES};
-use std::io::{stdout, Read, Write};
-use std::{env, fs::File, process::exit};
-
-/// The first bytes of a file, at most so many; a missing file counts as empty.
-fn first_bytes(path: &str, most: usize) -> Vec<u8> {
-    let mut bytes = vec![];
-    if let Ok(file) = File::open(path) {
-        let _ = file.take(most as u64).read_to_end(&mut bytes);
-    }
-    bytes
-}
+use std::io::{stdout, Write};
+use std::{env, process::exit};
 
 fn main() {
     let args: Vec<String> = env::args().skip(1).collect();
