@@ -1,6 +1,7 @@
 //! The demand of a task.
 ghost use mathlib.Core.Path.{_≡_};
-ghost use Prim.Native.Nat.{ℕ, _+_, _*_, _^_, _<_, _≤_};
+ghost use Prim.Native.Nat.{ℕ, _+_, _*_, _^_, _<_, _≤_, min};
+ghost use lib.Dec.{eqb};
 ghost use lib.ListN.{length, getD};
 ghost use Rattle.std.specs.Of.Vec.{vec-items, vec-len};
 ghost use Rattle.terms.specs.Cores.{number-of};
@@ -15,6 +16,7 @@ use arbiter::arbiter::Arbiter;
 use arbiter::question::Question;
 use arbiter::question::Sharing;
 use tables::held::Tables;
+use tables::model::Partition;
 use tables::model::Task;
 use terms::cores::Core;
 use terms::numbers::Picos;
@@ -31,6 +33,27 @@ pub(crate) fn task_of(tables: &Tables, k: usize) -> Task
     ensures fit { λ r. ⌜ Fit r ⌝ }
 {
     tables.tasks()[k]
+}
+
+/// Whether two tasks are of one partition.
+fn is_beside(x: &Task, y: &Task) -> bool
+    ensures { λ r. ⌜ r ≡ eqb (now (x .entry) .partition) (now (y .entry) .partition) ⌝ }
+{
+    x.partition == y.partition
+}
+
+/// The execution time of one job on core `p`, from which the iteration starts.
+pub(crate) fn start_of(x: &Task, p: Core) -> u64
+    ensures { λ r. ⌜ r ≡ execution-on (now (x .entry)) (number-of p) ⌝ }
+{
+    x.execution[p.number()].get()
+}
+
+/// The least of a task's deadline, its partition's period and its own period.
+fn least_of(x: &Task, partition: &Partition) -> Picos
+    ensures { λ r. ⌜ r .0 ≡ min (now (x .entry) .deadline .0) (min (now (partition .entry) .period .0) (now (x .entry) .period .0)) ⌝ }
+{
+    x.deadline.lesser(partition.period.lesser(x.period))
 }
 
 /// What jobs ask for: execution time, and requests.
@@ -64,12 +87,12 @@ fn ahead_of(tables: &Tables, placement: &Placement, i: usize, p: Core, t: Picos)
     ensures requests { λ r. ⌜ r .requests .0 ≡ ahead (state (now (tables .entry)) (now (placement .entry))) i (λ x. requests-on x (number-of p)) (t .0) ⌝ }
     ensures small { λ r. ⌜ (r .execution .0 ≤ 64 * 10 ^ 17) × (r .requests .0 ≤ 64 * 10 ^ 10) ⌝ }
 {
-    let partition = task_of(tables, i).partition;
+    let own = task_of(tables, i);
     let mut execution = Picos::NONE;
     let mut requests = Requests::NONE;
     for k in 0..i {
         let x = task_of(tables, k);
-        if x.partition == partition {
+        if is_beside(&x, &own) {
             let share = own_share(&x, p, t);
             execution += share.execution;
             requests += share.requests;
@@ -151,5 +174,5 @@ pub(crate) fn limit_of(tables: &Tables, placement: &Placement, i: usize) -> Pico
 {
     let x = task_of(tables, i);
     let partition = tables.partitions()[x.partition];
-    x.deadline.lesser(partition.period.lesser(x.period))
+    least_of(&x, &partition)
 }

@@ -1,20 +1,28 @@
 //! How many jobs of a task count.
 ghost use mathlib.Core.Path.{_≡_};
-ghost use Prim.Native.Nat.{_^_, _≤_};
+ghost use Prim.Native.Nat.{_+_, _^_, _<_, _≤_};
 ghost use Rattle.tables.specs.Ranges.{Period};
 ghost use Rattle.analysis.specs.Demand.{jobs, own-jobs, other-jobs};
 use tables::model::Task;
 use terms::numbers::Picos;
 
-/// A time divided by a period, rounded up.
+/// A number divided by another, rounded up.
+fn divided_up(n: u64, by: u64) -> u64
+    requires some { ⌜ 0 < by ⌝ }
+    requires fits { ⌜ n + by < 2 ^ 64 ⌝ }
+    ensures { λ r. ⌜ r ≡ jobs n by ⌝ }
+{
+    (n + (by - 1)) / by
+}
+
+/// How often a period begins in a time.
 fn jobs_in(t: Picos, period: Picos) -> u64
     requires time { ⌜ t .0 ≤ 10 ^ 13 ⌝ }
     requires period { ⌜ Period (period .0) ⌝ }
     ensures is { λ r. ⌜ r ≡ jobs (t .0) (period .0) ⌝ }
     ensures few { λ r. ⌜ r ≤ 10000 ⌝ }
 {
-    let period = period.get();
-    (t.get() + (period - 1)) / period
+    divided_up(t.get(), period.get())
 }
 
 /// How many jobs of a task of the same partition count up to `t`.

@@ -5,6 +5,7 @@ ghost use Rattle.analysis.specs.Demand.{state};
 ghost use Rattle.analysis.specs.Times.{First-late};
 use super::demand::demanded;
 use super::demand::limit_of;
+use super::demand::start_of;
 use super::demand::task_of;
 use super::placement::Placement;
 use super::sharing::sharing_of;
@@ -23,7 +24,7 @@ pub fn first_late<B: Arbiter>(tables: &Tables, placement: &Placement, arbiter: &
             continue 'tasks;
         };
         let last = limit_of(tables, placement, i).get();
-        let mut t = x.execution[p.number()].get();
+        let mut t = start_of(&x, p);
         'steps: while t <= last {
             let next = demanded(tables, placement, &sharing, i, p, Picos::new(t), arbiter).get();
             if next == t {

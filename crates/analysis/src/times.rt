@@ -8,6 +8,7 @@ ghost use Rattle.analysis.specs.Placed.{sharing-of};
 ghost use Rattle.analysis.specs.Times.{Time-is, Times};
 use super::demand::demanded;
 use super::demand::limit_of;
+use super::demand::start_of;
 use super::demand::task_of;
 use super::placement::Placement;
 use super::sharing::sharing_of;
@@ -34,7 +35,7 @@ fn response<B: Arbiter>(
         return None;
     };
     let last = limit_of(tables, placement, i).get();
-    let mut t = x.execution[p.number()].get();
+    let mut t = start_of(&x, p);
     while t <= last {
         let next = demanded(tables, placement, sharing, i, p, Picos::new(t), arbiter).get();
         if next == t {

@@ -1,5 +1,4 @@
-use mathlib.Core.Path.{_≡_, ap, _∙_}
-use Prim.Native.Nat.{_+_, _-_, _/_, _≤_, _^_}
+use mathlib.Core.Path.{_≡_}
 use native.Mathlib.Omega.{arith}
 use Rattle.analysis.proofs.Counts.{jobs-few}
 use Rattle.analysis.proofs.jobs.jobs_in.Needs as need
@@ -8,5 +7,5 @@ pub returns : need.returns
 returns c =
     record {
       is = cc;
-      few = jobs-few (c .get .result) (c .get-period .result) (omega (arith, c .pre .time)) (omega (arith, c .pre .period .0));
+      few = omega (arith, c .divided-up .ensures, jobs-few (c .get .result) (c .get-2 .result) (omega (arith, c .pre .time)) (omega (arith, c .pre .period .0)));
     }

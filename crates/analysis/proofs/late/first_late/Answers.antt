@@ -3,6 +3,7 @@ use Prim.Native.Nat.{ℕ, _≤_, _<_}
 use native.Mathlib.Omega.{arith}
 use borrow.Author.Count.{below-more}
 use Rattle.std.specs.declared.option.Option.the-variants.{Some, None}
+use Rattle.terms.specs.Cores.{number-of}
 use Rattle.tables.specs.Ranges.{execution-on}
 use Rattle.tables.specs.declared.model.Task.{Task}
 use Rattle.analysis.specs.Demand.{State, state, task, place, demand, limit}
@@ -14,8 +15,8 @@ use Rattle.analysis.proofs.late.first_late.Needs as need
 pub steps-holds : need.steps-holds
 steps-holds g c =
     let s : State = state (c .args .tables .now) (c .args .placement .now) in
-    starts (g .B·Arbiter .bound (c .args .arbiter .now)) s (c .tasks .i) (c .in-Some .p) (c .get-t .result)
-    (c .get-t .ensures ∙ ap (λ (x : Task). execution-on x (c .number .result)) (c .task-of-x .ensures .is) ∙ ap (λ (q : ℕ). execution-on (task s (c .tasks .i)) q) (c .number .ensures .is))
+    starts (g .B·Arbiter .bound (c .args .arbiter .now)) s (c .tasks .i) (c .in-Some .p) (c .start-of-t .result)
+    (c .start-of-t .ensures ∙ ap (λ (x : Task). execution-on x (number-of (c .in-Some .p))) (c .task-of-x .ensures .is))
 
 pub steps-again : need.steps-again
 steps-again g c =

@@ -13,8 +13,8 @@ use Rattle.analysis.proofs.times.response.Needs as need
 pub loop-t-holds : need.loop-t-holds
 loop-t-holds g c =
     let s : State = state (c .args .tables .now) (c .args .placement .now) in
-    starts (g .B·Arbiter .bound (c .args .arbiter .now)) s (c .args .i) (c .in-Some .p) (c .get-t .result)
-    (c .get-t .ensures ∙ ap (λ (x : Task). execution-on x (c .number .result)) (c .task-of-x .ensures .is) ∙ ap (λ (q : ℕ). execution-on (task s (c .args .i)) q) (c .number .ensures .is))
+    starts (g .B·Arbiter .bound (c .args .arbiter .now)) s (c .args .i) (c .in-Some .p) (c .start-of-t .result)
+    (c .start-of-t .ensures ∙ ap (λ (x : Task). execution-on x (number-of (c .in-Some .p))) (c .task-of-x .ensures .is))
 
 pub loop-t-again : need.loop-t-again
 loop-t-again g c =
