@@ -32,6 +32,39 @@ fn task(name: &str, partition: usize, period: u128, deadline: u128, execution: u
     Task { partition, period, deadline, execution: [execution; 4], requests: [requests; 4], name }
 }
 
+fn answer(tab: &[u8]) -> String {
+    match file::read(tab) {
+        Ok(_) => "accepted".to_string(),
+        Err(e) => format!("refused {} at {}", e.number, e.tells),
+    }
+}
+
+fn runs(kind: &str, answers: &[String]) -> String {
+    let mut text = String::new();
+    let mut from = 0;
+    for to in 0..answers.len() {
+        if to + 1 == answers.len() || answers[to + 1] != answers[from] {
+            text += &format!("{kind} {from}-{to}: {}\n", answers[from]);
+            from = to + 1;
+        }
+    }
+    text
+}
+
+/// What becomes of a table file cut after each byte, and with each single bit turned; neighbours with the same answer
+/// share a line.
+pub fn damaged_text(tab: &[u8]) -> Vec<u8> {
+    let cut: Vec<String> = (0..=tab.len()).map(|n| answer(&tab[..n])).collect();
+    let turned: Vec<String> = (0..8 * tab.len())
+        .map(|bit| {
+            let mut other = tab.to_vec();
+            other[bit / 8] ^= 128 >> (bit % 8);
+            answer(&other)
+        })
+        .collect();
+    (runs("prefix", &cut) + &runs("bit", &turned)).into_bytes()
+}
+
 /// Two cores, two partitions with one task each and a link between them.
 pub fn two_cores() -> Tables {
     Tables {
@@ -151,6 +184,7 @@ pub fn files(text: &str, changes: &[u8]) -> Result<Vec<(String, Vec<u8>)>, Strin
     let check = check_text(&tab, &alloc);
     let summary = summary_text(&tab, &alloc);
     let rehearsal = rehearse_text(&tab, &changes);
+    let damaged = damaged_text(&tab);
     let mut all: Vec<(String, Vec<u8>)> = vec![];
     for (place, bytes) in [
         ("example/station.tab", &tab),
@@ -167,6 +201,8 @@ pub fn files(text: &str, changes: &[u8]) -> Result<Vec<(String, Vec<u8>)>, Strin
         ("crates/rehearse/data/station.tab", &tab),
         ("crates/rehearse/data/station.changes", &changes),
         ("crates/rehearse/stdout", &rehearsal),
+        ("crates/damaged/data/station.tab", &tab),
+        ("crates/damaged/stdout", &damaged),
     ] {
         all.push((place.to_string(), bytes.clone()));
     }

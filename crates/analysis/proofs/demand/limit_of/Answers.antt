@@ -15,8 +15,8 @@ returns c =
     let there = c .partitions .ensures .is in
     record {
       is =
-      c .least-of .ensures
-      ∙ ap (λ (xs : List Partition). min (c .task-of-x .result .deadline .0) (min (getD xs (c .task-of-x .result .partition) no-partition .period .0) (c .task-of-x .result .period .0))) there
+          c .least-of .ensures
+          ∙ ap (λ (xs : List Partition). min (c .task-of-x .result .deadline .0) (min (getD xs (c .task-of-x .result .partition) no-partition .period .0) (c .task-of-x .result .period .0))) there
           ∙ ap (λ (x : Task). min (x .deadline .0) (min (getD (vec-items (c .args .tables .now .partitions)) (x .partition) no-partition .period .0) (x .period .0))) read;
       small = omega (arith, c .least-of .ensures, c .task-of-x .ensures .fit .deadline);
     }
