@@ -1,0 +1,19 @@
+use mathlib.Core.Logic.{inl, inr}
+use Rattle.std.specs.declared.result.Result.the-variants.{Ok, Err}
+use Rattle.terms.specs.Refusals.{told}
+use Rattle.plan.specs.Born.{state-of}
+use Rattle.report.proofs.Judging.{checked-answered, checked-refused}
+use Rattle.report.proofs.checked.check_text.Needs as need
+
+pub returns-in-Ok : need.returns-in-Ok
+returns-in-Ok c =
+    checked-answered (c .args .file .now) (c .args .allocation .now) (c .args .out .now) (c .listing .result) (c .listing .last .out)
+    (c .in-Ok .adopted .pile) (Ok tt) (state-of (c .in-Ok .adopted .plan)) (c .in-Ok .ensures tt) (c .listing .ensures)
+
+pub returns-in-Err : need.returns-in-Err
+returns-in-Err c =
+    elim (c .in-Err .ensures tt) [
+      | inl refused ↦ checked-refused (c .args .file .now) (c .args .allocation .now) (c .args .out .now) (c .write-refusal .result) (c .write-refusal .last .out) (told (c .in-Err .refusal)) refused (c .write-refusal .ensures)
+      | inr judged ↦ checked-answered (c .args .file .now) (c .args .allocation .now) (c .args .out .now) (c .write-refusal .result) (c .write-refusal .last .out)
+          (judged .0) (Err (c .in-Err .refusal)) (judged .1) (judged .2) (c .write-refusal .ensures)
+    ]
