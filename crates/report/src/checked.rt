@@ -1,5 +1,9 @@
 //! The listing of a plan, and the text that the program check prints.
-ghost use Prim.Native.Nat.{ℕ};
+ghost use mathlib.Core.Bool.{true};
+ghost use mathlib.Core.Path.{_≡_};
+ghost use Prim.Native.Nat.{ℕ, _≤_};
+ghost use lib.ListN.{length};
+ghost use Rattle.std.specs.Results.{isOk};
 ghost use Rattle.plan.specs.Born.{state-of};
 ghost use Rattle.report.specs.Checked.{Checked, Judgement, Listed};
 use super::judged::Adopted;
@@ -19,7 +23,8 @@ use terms::refusal::Refusal;
 /// Writes one line for each task of a plan, its number and its time, or 0, into the front of a buffer, and tells their
 /// length; refuses a buffer that is too short, and then writes nothing.
 pub fn listing<B: Arbiter>(plan: &Plan, out: &mut [u8], arbiter: &B) -> Result<usize, Refusal>
-    ensures { λ r. ⌜ Listed (bound (now (arbiter .entry))) (state-of (now (plan .entry))) (now (out .entry)) r (now (out .exit)) ⌝ }
+    ensures enough { λ r. ⌜ (3648 ≤ length (now (out .entry)) → isOk r ≡ true) ⌝ }
+    ensures listed { λ r. ⌜ Listed (bound (now (arbiter .entry))) (state-of (now (plan .entry))) (now (out .entry)) r (now (out .exit)) ⌝ }
 {
     let count = plan.task_count();
     let mut entries = [Picos::NONE; 64];
@@ -47,7 +52,8 @@ pub fn check_text(
     allocation: &[u8],
     out: &mut [u8],
 ) -> Result<usize, Refusal>
-    ensures { λ r. ⌜ Checked (now (file .entry)) (now (allocation .entry)) (now (out .entry)) r (now (out .exit)) ⌝ }
+    ensures enough { λ r. ⌜ (3648 ≤ length (now (out .entry)) → isOk r ≡ true) ⌝ }
+    ensures checked { λ r. ⌜ Checked (now (file .entry)) (now (allocation .entry)) (now (out .entry)) r (now (out .exit)) ⌝ }
 {
     match judge(room, file, allocation) {
         Ok(adopted) => listing(&adopted.plan, out, &adopted.pile),
