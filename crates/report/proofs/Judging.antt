@@ -2,10 +2,11 @@
 use mathlib.Core.Path.{_≡_, sym, ap, _∙_, subst}
 use mathlib.Core.List.{List}
 use mathlib.Core.Logic.{inr}
-use Prim.Native.Nat.{ℕ, _<_}
+use Prim.Native.Nat.{ℕ, _<_, _≤_}
 use native.Mathlib.Omega.{arith}
 use lib.ListN.{length, getD}
 use Rattle.std.proofs.shelf.Lists.{getD-take, length-take-le}
+use Rattle.std.specs.Results.{Cases}
 use Rattle.std.specs.declared.option.Option.{Option}
 use Rattle.std.specs.declared.option.Option.the-variants.{Some, None}
 use Rattle.std.specs.declared.result.Result.{Result}
@@ -59,11 +60,18 @@ module _ (file entries : List ℕ) (s z : State) (pile : Lesser RequestDriven Jo
     call = call;
   }
 
+-- what was written lies in the buffer
+pub written-within : (text old : List ℕ) (r : Result ℕ Refusal) (new : List ℕ) → Written text old r new → Cases r (λ n. n ≤ length old) (λ e. Unit {0})
+written-within text old (Ok n) new w = omega (arith, w .0, w .1 .long)
+written-within text old (Err e) new w = tt
+
 module _ (file entries old : List ℕ) (r : Result ℕ Refusal) (new : List ℕ) where
   pub checked-refused : (t : ℕ × ℕ) → decode file ≡ Err t → Written (refusal-text t) old r new → Checked file entries old r new
+  unfolding Checked
   checked-refused t is written = subst (λ (d : Result Book (ℕ × ℕ)). Checked-by d file entries old r new) (sym is) written
 
   pub checked-answered : (pile : Lesser RequestDriven JobDriven) (answer : Result (Unit {0}) Refusal) (z : State) → Judged file entries pile answer z → Told (pile-bound pile) answer z old r new → Checked file entries old r new
+  unfolding Checked
   checked-answered pile answer z j text =
       subst (λ (d : Result Book (ℕ × ℕ)). Checked-by d file entries old r new) (sym (j .born .read .is))
       (record { pile = pile; answer = answer; after = z; judged = j; text = text })

@@ -68,5 +68,5 @@ Checked-by (Ok book) file entries old r new = Answered file entries old r new
 Checked-by (Err t) file entries old r new = Written (refusal-text t) old r new
 
 -- a buffer before and after the text that check prints of a file and of entries was written into it
-abbrev pub Checked : List ℕ → List ℕ → List ℕ → Result ℕ Refusal → List ℕ → Type 0
+unfoldable pub Checked : List ℕ → List ℕ → List ℕ → Result ℕ Refusal → List ℕ → Type 0
 Checked file entries old r new = Checked-by (decode file) file entries old r new

@@ -3,7 +3,7 @@ ghost use mathlib.Core.Bool.{true};
 ghost use mathlib.Core.Path.{_≡_};
 ghost use Prim.Native.Nat.{ℕ, _≤_};
 ghost use lib.ListN.{length};
-ghost use Rattle.std.specs.Results.{isOk};
+ghost use Rattle.std.specs.Results.{Cases, isOk};
 ghost use Rattle.plan.specs.Born.{state-of};
 ghost use Rattle.report.specs.Checked.{Checked, Judgement, Listed};
 use super::judged::Adopted;
@@ -24,6 +24,7 @@ use terms::refusal::Refusal;
 /// length; refuses a buffer that is too short, and then writes nothing.
 pub fn listing<B: Arbiter>(plan: &Plan, out: &mut [u8], arbiter: &B) -> Result<usize, Refusal>
     ensures enough { λ r. ⌜ (3648 ≤ length (now (out .entry)) → isOk r ≡ true) ⌝ }
+    ensures within { λ r. ⌜ Cases r (λ n. n ≤ length (now (out .entry))) (λ _. Unit {0}) ⌝ }
     ensures listed { λ r. ⌜ Listed (bound (now (arbiter .entry))) (state-of (now (plan .entry))) (now (out .entry)) r (now (out .exit)) ⌝ }
 {
     let count = plan.task_count();
@@ -53,6 +54,7 @@ pub fn check_text(
     out: &mut [u8],
 ) -> Result<usize, Refusal>
     ensures enough { λ r. ⌜ (3648 ≤ length (now (out .entry)) → isOk r ≡ true) ⌝ }
+    ensures within { λ r. ⌜ Cases r (λ n. n ≤ length (now (out .entry))) (λ _. Unit {0}) ⌝ }
     ensures checked { λ r. ⌜ Checked (now (file .entry)) (now (allocation .entry)) (now (out .entry)) r (now (out .exit)) ⌝ }
 {
     match judge(room, file, allocation) {
