@@ -3,7 +3,8 @@ ghost use mathlib.Core.Path.{_≡_};
 ghost use Prim.Native.Nat.{ℕ, _^_, _<_, _≤_};
 ghost use lib.ListN.{length};
 ghost use Rattle.std.specs.Of.Vec.{vec-items, vec-len};
-ghost use Rattle.analysis.specs.Demand.{state};
+ghost use Rattle.std.specs.Options.{Cases};
+ghost use Rattle.analysis.specs.Demand.{state, limit};
 ghost use Rattle.analysis.specs.Placed.{sharing-of};
 ghost use Rattle.analysis.specs.Times.{Time-is, Times};
 use super::demand::demanded;
@@ -64,4 +65,15 @@ pub fn times<B: Arbiter>(
         out[i] = response(tables, placement, &sharing, i, arbiter).unwrap_or(Picos::NONE);
     }
     Ok(())
+}
+
+/// The limit of task `i`, if there is such a task.
+pub fn limit_at(tables: &Tables, placement: &Placement, i: usize) -> Option<Picos>
+    ensures { λ r. ⌜ Cases r (length (state (now (tables .entry)) (now (placement .entry)) .tasks) ≤ i) (λ t. (i < length (state (now (tables .entry)) (now (placement .entry)) .tasks)) × (t .0 ≡ limit (state (now (tables .entry)) (now (placement .entry))) i)) ⌝ }
+{
+    if i < tables.tasks().len() {
+        Some(limit_of(tables, placement, i))
+    } else {
+        None
+    }
 }

@@ -2,3 +2,4 @@ pub mod Decimal
 pub mod Puts
 pub mod Pairs
 pub mod Rows
+pub mod Judging

@@ -29,9 +29,13 @@ lines k (t ∷ ts) = line k (t .0) ++ lines (k + 1) ts
 abbrev pub listing : List Picos → List ℕ
 listing ts = lines 0 ts
 
+-- the line of a refusal with this number that tells this
+abbrev pub refusal-text : ℕ × ℕ → List ℕ
+refusal-text t = codes "refused " ++ decimal (t .0) ++ codes " at " ++ decimal (t .1) ++ codes "\n"
+
 -- the line of a refusal: its number, and what it tells
 abbrev pub refused-line : Refusal → List ℕ
-refused-line e = codes "refused " ++ decimal (told e .0) ++ codes " at " ++ decimal (told e .1) ++ codes "\n"
+refused-line e = refusal-text (told e)
 
 -- a buffer before and after a text was put into its front, where it has room: n bytes are the text, and the rest is as it was
 pub record Put (text old : List ℕ) (n : ℕ) (new : List ℕ) : Type 0 where

@@ -1,7 +1,9 @@
 //! The listing: one line for each time.
 ghost use mathlib.Core.Path.{_≡_};
+ghost use mathlib.Core.Bool.{true};
 ghost use Prim.Native.Nat.{_≤_};
 ghost use lib.ListN.{length};
+ghost use Rattle.std.specs.Results.{isOk};
 ghost use Rattle.report.specs.Listed.{listed};
 ghost use Rattle.report.specs.Text.{Put, Written, listing};
 use super::lines::line_length;
@@ -12,7 +14,8 @@ use terms::refusal::Refusal;
 
 /// How long the listing is.
 fn listing_length(times: &Times) -> usize
-    ensures { λ r. ⌜ r ≡ length (listing (listed (now (times .entry)))) ⌝ }
+    ensures is { λ r. ⌜ r ≡ length (listing (listed (now (times .entry)))) ⌝ }
+    ensures few { λ r. ⌜ r ≤ 3648 ⌝ }
 {
     let mut needed = 0;
     for k in 0..times.count() {
@@ -34,10 +37,14 @@ fn put_listing(times: &Times, out: &mut [u8]) -> usize
     at
 }
 
+/// The length of a buffer that no listing and no refusal is too long for: 64 lines of at most 57 bytes.
+pub const LONG_ENOUGH: usize = 64 * 57;
+
 /// Writes the listing into the front of a buffer, and tells its length; refuses a buffer that is too short, and then
 /// writes nothing.
 pub fn write_listing(times: &Times, out: &mut [u8]) -> Result<usize, Refusal>
-    ensures { λ r. ⌜ Written (listing (listed (now (times .entry)))) (now (out .entry)) r (now (out .exit)) ⌝ }
+    ensures enough { λ r. ⌜ (3648 ≤ length (now (out .entry)) → isOk r ≡ true) ⌝ }
+    ensures written { λ r. ⌜ Written (listing (listed (now (times .entry)))) (now (out .entry)) r (now (out .exit)) ⌝ }
 {
     let needed = listing_length(times);
     fits(needed, out.len())?;

@@ -1,7 +1,9 @@
 //! A refusal as a line of text.
 ghost use mathlib.Core.Path.{_≡_};
+ghost use mathlib.Core.Bool.{true};
 ghost use Prim.Native.Nat.{_≤_};
 ghost use lib.ListN.{length};
+ghost use Rattle.std.specs.Results.{isOk};
 ghost use Rattle.report.specs.Text.{Put, Written, refused-line};
 use super::lines::line_length;
 use super::lines::put_line;
@@ -10,7 +12,8 @@ use terms::refusal::Refusal;
 
 /// How long the line of a refusal is.
 fn refusal_length(refusal: &Refusal) -> usize
-    ensures { λ r. ⌜ r ≡ length (refused-line (now (refusal .entry))) ⌝ }
+    ensures is { λ r. ⌜ r ≡ length (refused-line (now (refusal .entry))) ⌝ }
+    ensures few { λ r. ⌜ r ≤ 57 ⌝ }
 {
     line_length(
         b"refused ",
@@ -33,7 +36,8 @@ fn put_refusal(refusal: &Refusal, out: &mut [u8]) -> usize
 /// Writes the line of a refusal into the front of a buffer, and tells its length; refuses a buffer that is too short,
 /// and then writes nothing.
 pub fn write_refusal(refusal: &Refusal, out: &mut [u8]) -> Result<usize, Refusal>
-    ensures { λ r. ⌜ Written (refused-line (now (refusal .entry))) (now (out .entry)) r (now (out .exit)) ⌝ }
+    ensures enough { λ r. ⌜ (57 ≤ length (now (out .entry)) → isOk r ≡ true) ⌝ }
+    ensures written { λ r. ⌜ Written (refused-line (now (refusal .entry))) (now (out .entry)) r (now (out .exit)) ⌝ }
 {
     let needed = refusal_length(refusal);
     fits(needed, out.len())?;

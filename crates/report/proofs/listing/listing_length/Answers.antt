@@ -16,4 +16,7 @@ loop-k-again c =
     )
 
 pub returns : need.returns
-returns c = c .loop-k .inv .0 ∙ ap length (rows-all (c .args .times .now) (c .loop-k .k) (omega (arith, c .count-k-end .ensures)))
+returns c = record {
+  is = c .loop-k .inv .0 ∙ ap length (rows-all (c .args .times .now) (c .loop-k .k) (omega (arith, c .count-k-end .ensures)));
+  few = omega (arith, c .loop-k .inv .1, c .count-k-end .ensures, c .args .times .now .few);
+}
