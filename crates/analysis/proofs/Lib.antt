@@ -6,5 +6,6 @@ pub mod Joins
 pub mod Rise
 pub mod Least
 pub mod Steps
+pub mod Wide
 pub mod Settling
 pub mod Eases

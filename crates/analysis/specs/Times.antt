@@ -76,13 +76,17 @@ module _ (bound : Question → ℕ) (s : State) where
   abbrev pub Shows : ℕ → Picos → Type 0
   Shows k v = (r : Option Picos) × Time-is bound s k r × (v ≡ valueOr r no-time)
 
-  -- a buffer, before and after the times were written into it
-  pub record Filled (old new : List Picos) : Type 0 where
-    pub long : length new ≡ length old
-    pub shows : (k : ℕ) → k < length (s .tasks) → Shows k (getD new k no-time)
-    pub rest : (k : ℕ) → length (s .tasks) ≤ k → getD new k no-time ≡ getD old k no-time
+-- a buffer, before and after its first n entries were filled: each shows what it is to show, and the rest is as it was
+pub record Filled (n : ℕ) (Entry : ℕ → Picos → Type 0) (old new : List Picos) : Type 0 where
+  pub long : length new ≡ length old
+  pub shows : (k : ℕ) → k < n → Entry k (getD new k no-time)
+  pub rest : (k : ℕ) → n ≤ k → getD new k no-time ≡ getD old k no-time
+
+-- what filling the first n entries answers: a buffer that is too short is refused with 17 and the length needed
+abbrev pub Fills : {U : Type 0} → ℕ → (ℕ → Picos → Type 0) → List Picos → Result U Refusal → List Picos → Type 0
+Fills n Entry old (Ok u) new = (n ≤ length old) × Filled n Entry old new
+Fills n Entry old (Err e) new = (told e ≡ (17, n)) × (length old < n) × (new ≡ old)
 
 -- what asking for the times answers, and what it leaves in the buffer
 abbrev pub Times : {U : Type 0} → (Question → ℕ) → State → List Picos → Result U Refusal → List Picos → Type 0
-Times bound s old (Ok u) new = (length (s .tasks) ≤ length old) × Filled bound s old new
-Times bound s old (Err e) new = (told e ≡ (17, length (s .tasks))) × (length old < length (s .tasks)) × (new ≡ old)
+Times bound s old r new = Fills (length (s .tasks)) (Shows bound s) old r new

@@ -5,3 +5,4 @@ pub mod late;
 pub mod placement;
 pub mod sharing;
 pub mod times;
+pub mod windows;

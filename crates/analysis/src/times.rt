@@ -20,7 +20,7 @@ use terms::numbers::Picos;
 use terms::refusal::Refusal;
 
 /// The time of task `i`: the least fixed point of its demand within its limit; none where it is unplaced or late.
-fn response<B: Arbiter>(
+pub(crate) fn response<B: Arbiter>(
     tables: &Tables,
     placement: &Placement,
     sharing: &Sharing,

@@ -5,10 +5,12 @@ ghost use lib.ListN.{length};
 ghost use Rattle.std.specs.Options.{Cases};
 ghost use Rattle.analysis.specs.Demand.{limit};
 ghost use Rattle.analysis.specs.Times.{Times};
+ghost use Rattle.analysis.specs.Windows.{Windows};
 ghost use Rattle.plan.specs.Born.{state-of};
 use super::plan::Plan;
 use analysis::times::limit_at;
 use analysis::times::times;
+use analysis::windows::windows;
 use arbiter::arbiter::Arbiter;
 use terms::numbers::Picos;
 use terms::refusal::Refusal;
@@ -42,5 +44,13 @@ impl Plan {
         ensures { λ r. ⌜ Times (bound (now (arbiter .entry))) (state-of (now (self .entry))) (now (out .entry)) r (now (out .exit)) ⌝ }
     {
         times(&self.tables, &self.placement, out, arbiter)
+    }
+
+    /// Fills the first entries of a buffer, one for each partition, with its window: the largest time of its tasks, or 0
+    /// where there is none or one of them has none.
+    pub fn windows<B: Arbiter>(&self, out: &mut [Picos], arbiter: &B) -> Result<(), Refusal>
+        ensures { λ r. ⌜ Windows (bound (now (arbiter .entry))) (state-of (now (self .entry))) (now (out .entry)) r (now (out .exit)) ⌝ }
+    {
+        windows(&self.tables, &self.placement, out, arbiter)
     }
 }

@@ -33,7 +33,7 @@ use Rattle.report.specs.Text.{Written, listing, refusal-text}
 use Rattle.report.specs.declared.times.Times.{Times}
 
 -- the times that a plan has filled in, listed
-pub listed-times : (bound : Question → ℕ) (s : State) (fresh filled : List Picos) (x : Times) → Filled bound s fresh filled → x .entries ≡ filled → x .count ≡ length (s .tasks) → (old new : List ℕ) (r : Result ℕ Refusal) → Written (listing (listed x)) old r new → Listed bound s old r new
+pub listed-times : (bound : Question → ℕ) (s : State) (fresh filled : List Picos) (x : Times) → Filled (length (s .tasks)) (Shows bound s) fresh filled → x .entries ≡ filled → x .count ≡ length (s .tasks) → (old new : List ℕ) (r : Result ℕ Refusal) → Written (listing (listed x)) old r new → Listed bound s old r new
 listed-times bound s fresh filled x times same count old new r written =
     let long : length (listed x) ≡ x .count = length-take-le (x .count) (x .entries) (omega (arith, x .full, x .few)) in
     record {

@@ -1,6 +1,8 @@
 //! Times, counts of requests, and the delay per request that turns a count into a time.
 ghost use mathlib.Core.Path.{_≡_};
+ghost use mathlib.Core.Bool.{cond};
 ghost use Prim.Native.Nat.{_+_, _*_, _^_, _<_, min};
+ghost use lib.Dec.{ltb};
 use std::ops::Add;
 use std::ops::AddAssign;
 
@@ -47,6 +49,13 @@ impl Picos {
         ensures { λ r. ⌜ r .0 ≡ min (self .0) (other .0) ⌝ }
     {
         if self.0 < other.0 { self } else { other }
+    }
+
+    /// The greater of two times.
+    pub fn greater(self, other: Picos) -> Picos
+        ensures { λ r. ⌜ r ≡ cond (ltb (self .0) (other .0)) other self ⌝ }
+    {
+        if self.0 < other.0 { other } else { self }
     }
 }
 
