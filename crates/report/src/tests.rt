@@ -1,4 +1,7 @@
 //! Numbers, a listing and a refusal, written and read as bytes.
+mod checked;
+mod files;
+
 use super::digits::write_number;
 use super::listing::write_listing;
 use super::refused::write_refusal;
