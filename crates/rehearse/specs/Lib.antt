@@ -1,0 +1,4 @@
+pub mod Day
+pub mod Numerals
+pub mod Tally
+pub mod Transcript
