@@ -1,0 +1,3 @@
+mod Days
+mod Lines
+mod Reading
