@@ -1,3 +1,4 @@
+pub mod Cutting
 pub mod Day
 pub mod Numerals
 pub mod Tally

@@ -1,10 +1,11 @@
 //! A text cut at a mark: lines, and the words of a line.
 ghost use mathlib.Core.Path.{_≡_};
-ghost use mathlib.Core.Bool.{cond};
-ghost use mathlib.Core.List.{List};
+ghost use mathlib.Core.Bool.{cond, false};
 ghost use denote.Ref.{now};
 ghost use Prim.Native.Nat.{ℕ, _+_, _<_, _≤_};
 ghost use lib.ListN.{length, getD};
+ghost use Rattle.std.specs.Options.{mapped};
+ghost use Rattle.rehearse.specs.Cutting.{Cuts};
 
 /// The place of the first mark in a text, or the text's length where there is none.
 fn first_mark(text: &[u8], mark: u8) -> usize
@@ -30,7 +31,9 @@ pub struct Pieces<'a> {
 
 impl<'a> Pieces<'a> {
     /// The pieces of a text.
-    pub fn new(text: &'a [u8], mark: u8) -> Pieces<'a> {
+    pub fn new(text: &'a [u8], mark: u8) -> Pieces<'a>
+        ensures { λ r. ⌜ (now (r .rest) ≡ now (text .entry)) × (r .done ≡ false) × (r .mark ≡ mark) ⌝ }
+    {
         Pieces {
             rest: text,
             done: false,
@@ -41,6 +44,8 @@ impl<'a> Pieces<'a> {
 
 pub impl<'a> Iterator for Pieces<'a> as PiecesIterator {
     type Item = &'a [u8];
+
+    ghost steps = { λ s r n. Cuts (s .mark) (now (s .rest)) (s .done) (mapped now r) (now (n .rest)) (n .done) };
 
     ghost ends = { λ _. Unit {0} };
 

@@ -30,10 +30,10 @@ returns-in-Break-n c =
 
 pub loop-byte-again : need.loop-byte-again
 loop-byte-again c = (
-    digits-more 10 (c .args .word .now) (c .loop-byte .byte-index) (c .loop-byte-test .taken) (c .loop-byte .inv .0) (c .if-not-is-ascii-digit .ensures tt .bound),
-    omega (arith, next-value (c .args .word .now) (c .loop-byte .byte-index) (c .loop-byte .n) (c .loop-byte-test .taken) (c .loop-byte .inv .1) (c .if-not-is-ascii-digit .ensures tt .cases), c .in-Continue-checked-mul .ensures tt, c .in-Continue-n .ensures tt),
-    omega (arith, c .in-Continue-n .ensures tt)
-  )
+  digits-more 10 (c .args .word .now) (c .loop-byte .byte-index) (c .loop-byte-test .taken) (c .loop-byte .inv .0) (c .if-not-is-ascii-digit .ensures tt .bound),
+  omega (arith, next-value (c .args .word .now) (c .loop-byte .byte-index) (c .loop-byte .n) (c .loop-byte-test .taken) (c .loop-byte .inv .1) (c .if-not-is-ascii-digit .ensures tt .cases), c .in-Continue-checked-mul .ensures tt, c .in-Continue-n .ensures tt),
+  omega (arith, c .in-Continue-n .ensures tt),
+)
 
 pub returns : need.returns
 returns c =

@@ -14,5 +14,5 @@ pub returns-in-Err : need.returns-in-Err
 returns-in-Err c =
     made-weaker (c .format-in-Err .result) _ _
     (λ s h. h ∙ outcome-pieces (c .args .line) (c .in-Err .refusal) (c .number-number .result) (c .tells-tells .result) (c .number-number .ensures) (c .tells-tells .ensures)
-      ∙ ap (outcome-text (c .args .line)) (sym (c .in-Err .is)))
+    ∙ ap (outcome-text (c .args .line)) (sym (c .in-Err .is)))
     (c .format-in-Err .ensures .made)
