@@ -1,0 +1,4 @@
+mod Cuts
+mod Days
+mod Lines
+mod Reading

@@ -1,0 +1,5 @@
+pub mod Cutting
+pub mod Day
+pub mod Numerals
+pub mod Tally
+pub mod Transcript

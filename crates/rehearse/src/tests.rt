@@ -1,0 +1,1 @@
+//! Lines, readable and not, and whole texts.
