@@ -1,13 +1,12 @@
 -- What holds of the changes of a day, played under the pile of our station. Assumes nothing.
 use mathlib.Core.Path.{_≡_}
 use mathlib.Core.List.{List}
-use Prim.Native.Nat.{ℕ, min}
-use lib.ListN.{replicate}
+use Prim.Native.Nat.{ℕ}
+use lib.ListN.{length, replicate}
 use Rattle.std.specs.declared.option.Option.the-variants.{None}
 use Rattle.std.specs.declared.result.Result.{Result}
 use Rattle.std.specs.declared.result.Result.the-variants.{Ok, Err}
 use Rattle.terms.specs.declared.refusal.Refusal.{Refusal}
-use Rattle.arbiter.specs.Bounds.{request-bound, job-bound}
 use Rattle.arbiter.specs.Station.{OurPile}
 use Rattle.arbiter.specs.declared.job_driven.JobDriven.{JobDriven}
 use Rattle.arbiter.specs.declared.lesser.Lesser.{Lesser}
@@ -17,25 +16,22 @@ use Rattle.tables.specs.Contents.{header-fault, header-of, head-at}
 use Rattle.tables.specs.Ranges.{no-time}
 use Rattle.tables.specs.declared.header.Header.{Header}
 use Rattle.analysis.specs.Demand.{State}
-use Rattle.analysis.specs.Times.{Filled}
+use Rattle.analysis.specs.Times.{Filled, Shows}
 use Rattle.plan.specs.Rehearsal.{Rehearsal, Rehearsed}
 use Rattle.plan.specs.declared.change.Change.{Change}
 use Rattle.plan.specs.declared.outcome.Outcome.{Outcome}
+use Rattle.report.specs.Checked.{pile-bound}
 use Rattle.report.specs.declared.times.Times.{Times}
 
 -- h is the header of a file whose header is sound
 abbrev pub Header-for : List ℕ → Header → Type 0
 Header-for file h = header-fault file 0 ≡ None → h ≡ header-of (head-at file 0)
 
--- the bound of the pile of our station: the lesser of its two
-abbrev pub pile-bound : Lesser RequestDriven JobDriven → Question → ℕ
-pile-bound a q = min (request-bound (a .first) q) (job-bound (a .second) q)
-
 -- a rehearsal to its end, after which the plan says z and shows these times: one entry for each task that the header counts
 pub record Ended (h : Header) (bound : Question → ℕ) (file : List ℕ) (changes : List Change) (old : List Outcome) (t : Times) (new : List Outcome) : Type 0 where
   pub z : State
   pub rehearsed : Rehearsed bound file changes old z new
-  pub shown : Filled bound z (replicate 64 no-time) (t .entries)
+  pub shown : Filled (length (z .tasks)) (Shows bound z) (replicate 64 no-time) (t .entries)
   pub counted : t .count ≡ h .tasks
 
 abbrev pub Ends : Header → (Question → ℕ) → List ℕ → List Change → List Outcome → Result Times Refusal → List Outcome → Type 0

@@ -1,6 +1,6 @@
 use mathlib.Core.Path.{_∙_, ap, sym, subst}
 use mathlib.Core.List.{List, [], _∷_}
-use lib.ListN.{replicate}
+use lib.ListN.{length, replicate}
 use Rattle.std.proofs.shelf.Results.{err-from-errBy}
 use Rattle.std.specs.declared.result.Result.{Result}
 use Rattle.std.specs.declared.result.Result.the-variants.{Ok, Err}
@@ -9,10 +9,11 @@ use Rattle.terms.specs.Checks.{within, first-out}
 use Rattle.terms.specs.declared.numbers.Picos.{Picos}
 use Rattle.terms.specs.declared.refusal.Refusal.{Refusal}
 use Rattle.tables.specs.Ranges.{no-time}
-use Rattle.analysis.specs.Times.{Filled}
+use Rattle.analysis.specs.Times.{Filled, Shows}
 use Rattle.plan.specs.Born.{state-of}
 use Rattle.report.specs.declared.times.Times.{Times}
-use Rattle.rehearse.specs.Day.{Day, pile-bound}
+use Rattle.report.specs.Checked.{pile-bound}
+use Rattle.rehearse.specs.Day.{Day}
 use Rattle.rehearse.proofs.Days.{made-ok}
 use Rattle.rehearse.proofs.day.rehearse_day.Needs as need
 
@@ -39,7 +40,7 @@ returns c = record {
     z = state-of (c .in-Continue-plan .plan);
     rehearsed = c .in-Continue-plan .ensures tt;
     shown =
-        subst (λ (ts : List Picos). Filled (pile-bound (c .in-Continue-pile .pile)) (state-of (c .in-Continue-plan .plan)) (replicate 64 no-time) ts)
+        subst (λ (ts : List Picos). Filled (length (state-of (c .in-Continue-plan .plan) .tasks)) (Shows (pile-bound (c .in-Continue-pile .pile)) (state-of (c .in-Continue-plan .plan))) (replicate 64 no-time) ts)
         (sym (c .new .ensures .entries)) (c .in-Continue-times .ensures tt .1);
     counted = c .new .ensures .count;
   };
