@@ -10,3 +10,4 @@ mod room;
 #[cfg(test)]
 mod tests;
 pub mod times;
+pub mod worked;
