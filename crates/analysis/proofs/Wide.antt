@@ -26,9 +26,9 @@ module _ (bound : Question → ℕ) (s : State) (p : ℕ) where
   largest-passed n v w l same other =
       subst (Largest bound s p (n + 1)) (sym same) (record {
         each = λ k h. elim (cases-eq k n) [
-            inl e ↦ absurd (other (ap (λ (j : ℕ). task s j .partition) (sym e) ∙ h .1))
+          | inl e ↦ absurd (other (ap (λ (j : ℕ). task s j .partition) (sym e) ∙ h .1))
           | inr ne ↦ l .each k (omega (arith, h .0), h .1)
-          ];
+        ];
         reached = elim (l .reached) [ inl z ↦ inl z | inr w ↦ inr (w .0, further n (w .0) (w .1), w .2) ];
       })
 
@@ -37,9 +37,9 @@ module _ (bound : Question → ℕ) (s : State) (p : ℕ) where
     raised : v .0 < t .0 → Largest bound s p (n + 1) t
     raised more = record {
       each = λ k h. elim (cases-eq k n) [
-          inl e ↦ subst (λ (j : ℕ). (u : Picos) × Time-is bound s j (Some u) × (u .0 ≤ t .0)) (sym e) (t, is, omega arith)
+        | inl e ↦ subst (λ (j : ℕ). (u : Picos) × Time-is bound s j (Some u) × (u .0 ≤ t .0)) (sym e) (t, is, omega arith)
         | inr ne ↦ let w = l .each k (omega (arith, h .0), h .1) in (w .0, w .1, omega (arith, w .2))
-        ];
+      ];
       reached = inr (n, (omega arith, mine), is);
     }
 
@@ -47,15 +47,15 @@ module _ (bound : Question → ℕ) (s : State) (p : ℕ) where
     kept : t .0 ≤ v .0 → Largest bound s p (n + 1) v
     kept less = record {
       each = λ k h. elim (cases-eq k n) [
-          inl e ↦ subst (λ (j : ℕ). (u : Picos) × Time-is bound s j (Some u) × (u .0 ≤ v .0)) (sym e) (t, is, less)
+        | inl e ↦ subst (λ (j : ℕ). (u : Picos) × Time-is bound s j (Some u) × (u .0 ≤ v .0)) (sym e) (t, is, less)
         | inr ne ↦ l .each k (omega (arith, h .0), h .1)
-        ];
+      ];
       reached = elim (l .reached) [ inl z ↦ inl z | inr w ↦ inr (w .0, further n (w .0) (w .1), w .2) ];
     }
 
     pub largest-more : (w : Picos) → w ≡ cond (ltb (v .0) (t .0)) t v → Largest bound s p (n + 1) w
     largest-more w e =
         elim (cases-bool (ltb (v .0) (t .0))) [
-          inl more ↦ subst (Largest bound s p (n + 1)) (sym (e ∙ cond-true (ltb (v .0) (t .0)) t v more)) (raised (ltb-true (v .0) (t .0) more))
-        | inr less ↦ subst (Largest bound s p (n + 1)) (sym (e ∙ cond-false (ltb (v .0) (t .0)) t v less)) (kept (ltb-false (v .0) (t .0) less))
+          | inl more ↦ subst (Largest bound s p (n + 1)) (sym (e ∙ cond-true (ltb (v .0) (t .0)) t v more)) (raised (ltb-true (v .0) (t .0) more))
+          | inr less ↦ subst (Largest bound s p (n + 1)) (sym (e ∙ cond-false (ltb (v .0) (t .0)) t v less)) (kept (ltb-false (v .0) (t .0) less))
         ]

@@ -22,10 +22,10 @@ loop-i-again g c =
     let v = c .loop-i .largest in
     let here = ap (λ (x : Task). x .partition) (c .task-of .ensures .is) in
     elim (c .if-task-of-partition .came) [
-      then-task-of-partition·in-Some w ↦
-        largest-more bound s p i v (w .in-Some .time) (c .loop-i .inv) (sym here ∙ w .if-task-of-partition .taken) (w .in-Some .ensures tt) (c .if-task-of-partition .largest) (w .largest-is ∙ w .greater-largest .ensures)
-    | else-task-of-partition w ↦
-        largest-passed bound s p i v (c .if-task-of-partition .largest) (c .loop-i .inv) (w .largest-is) (λ e. w .if-task-of-partition .left (here ∙ e))
+      | then-task-of-partition·in-Some w ↦
+          largest-more bound s p i v (w .in-Some .time) (c .loop-i .inv) (sym here ∙ w .if-task-of-partition .taken) (w .in-Some .ensures tt) (c .if-task-of-partition .largest) (w .largest-is ∙ w .greater-largest .ensures)
+      | else-task-of-partition w ↦
+          largest-passed bound s p i v (c .if-task-of-partition .largest) (c .loop-i .inv) (w .largest-is) (λ e. w .if-task-of-partition .left (here ∙ e))
     ]
 
 pub returns : need.returns
