@@ -1,27 +1,15 @@
 -- Allocations, one entry more at a time. Assumes nothing.
 use mathlib.Core.Path.{_≡_, refl, sym, ap, _∙_}
-use mathlib.Core.Bool.{Bool, true, false, _||_}
 use mathlib.Core.List.{List, [], _∷_, _++_, map, append-assoc}
 use Prim.Native.Nat.{ℕ, zero, suc, _+_, _-_, _<_, _≤_}
 use native.Mathlib.Omega.{arith}
-use lib.Dec.{eqb, ltb}
 use lib.ListN.{length, getD, take, set, replicate}
 use Rattle.std.proofs.shelf.Lists.{map-more, set-at, length-map, length-take-le}
-use Rattle.std.proofs.shelf.Tests.{eq-eqb, ne-eqb, lt-ltb, le-ltb, or-left, or-right, or-from}
 use Rattle.std.specs.declared.option.Option.{Option}
 use Rattle.std.specs.declared.option.Option.the-variants.{Some, None}
 use Rattle.terms.specs.Cores.{numbered}
 use Rattle.terms.specs.declared.cores.Core.{Core}
-use Rattle.plan.specs.Adoption.{names-core, laid}
-
-pub names-none : (cores b : ℕ) → b ≡ 255 → names-core cores b ≡ true
-names-none cores b e = or-left (eqb b 255) (ltb b cores) (eq-eqb b 255 e)
-
-pub names-one : (cores b : ℕ) → b < cores → names-core cores b ≡ true
-names-one cores b h = or-right (eqb b 255) (ltb b cores) (lt-ltb b cores h)
-
-pub names-no : (cores b : ℕ) → (b ≡ 255 → ⊥) → cores ≤ b → names-core cores b ≡ false
-names-no cores b n h = or-from (eqb b 255) (ltb b cores) (ne-eqb b 255 n) (le-ltb b cores h)
+use Rattle.plan.specs.Adoption.{laid}
 
 -- one entry more is laid
 pub laid-more : (entries : List ℕ) (k : ℕ) → k < length entries → length entries ≤ 16 → set (laid (take k entries)) k (numbered (getD entries k 0)) ≡ laid (take (k + 1) entries)

@@ -16,12 +16,19 @@ use terms::refusal::Refusal;
 /// The entry for a partition without a core.
 pub const UNPLACED: u8 = 255;
 
+/// Whether an entry is the number of a core of the computer, or stands for none.
+fn is_known(entry: u8, cores: usize) -> bool
+    ensures { λ r. ⌜ r ≡ names-core cores entry ⌝ }
+{
+    entry == UNPLACED || (entry as usize) < cores
+}
+
 /// The index of the first entry that names neither a core of the computer nor none.
 fn first_unknown(entries: &[u8], cores: usize) -> Option<usize>
     ensures { λ r. ⌜ r ≡ first-out 0 (map (names-core cores) (now (entries .entry))) ⌝ }
 {
     for (i, entry) in entries.iter().enumerate() {
-        if *entry != UNPLACED && *entry as usize >= cores {
+        if !is_known(*entry, cores) {
             return Some(i);
         }
     }
