@@ -1,4 +1,6 @@
 //! Response times of tasks under any arbiter: the demand of a task, its time, and the first late task.
+#![tactic(auto)]
+
 pub mod demand;
 pub mod examined;
 pub mod jobs;

@@ -1,4 +1,6 @@
 //! Arbiters of the shared memory: how long a job waits for it at most.
+#![tactic(auto)]
+
 pub mod arbiter;
 pub mod banks;
 pub mod job_driven;

@@ -1,4 +1,6 @@
 //! Examples that are run: small files and plans, and what the calls of the library answer.
+#![tactic(auto)]
+
 #[cfg(test)]
 mod checking;
 #[cfg(test)]

@@ -1,5 +1,7 @@
 //! Reads a table file cut after each byte, and with each single bit turned, and prints what becomes of every one, where
 //! neighbours with the same answer share a line; then the files of a table of faults.
+#![tactic(auto)]
+
 mod faults;
 
 use faults::faulty_files;

@@ -1,4 +1,6 @@
 //! The product for programs in other languages: a handful of functions on numbers and slices.
+#![tactic(auto)]
+
 pub mod answer;
 mod answers;
 pub mod checking;

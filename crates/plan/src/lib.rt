@@ -1,4 +1,6 @@
 //! A plan: the tables of a computer and the placement of its partitions, and the calls on it.
+#![tactic(auto)]
+
 pub mod adoption;
 pub mod birth;
 pub mod calls;

@@ -1,4 +1,6 @@
 //! Rehearses a day's changes of a station's plan, and prints what became of each.
+#![tactic(auto)]
+
 mod day;
 mod decimal;
 mod input;

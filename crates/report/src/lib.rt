@@ -1,4 +1,6 @@
 //! What the programs read and write: files, numbers, lines, listings and refusals as text.
+#![tactic(auto)]
+
 pub mod checked;
 pub mod digits;
 pub mod input;

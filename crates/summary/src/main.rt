@@ -1,4 +1,6 @@
 //! Tells in sentences what became of the station's files: what was read, where each partition is, and the verdict.
+#![tactic(auto)]
+
 mod names;
 mod sentences;
 mod slack;

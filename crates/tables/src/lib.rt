@@ -1,4 +1,6 @@
 //! The table file of a computer: its rows, its reader, and the tables that it holds.
+#![tactic(auto)]
+
 mod bits;
 mod file_row;
 mod first_bad;

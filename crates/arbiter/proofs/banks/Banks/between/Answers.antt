@@ -17,6 +17,6 @@ add-assign-requires c =
 
 pub loop-q-preserved : goal.loop-q-preserved
 loop-q-preserved c = elim c.if-apart.branch [
-  | then-apart w ↦ sum_took _ _ _ _ _ _ c.loop-q.invariant (w.over.ensures ∙ ap (λ n. n * c.args.self.now.l.0) w.count.ensures) (sym c.apart.ensures ∙ w.if-apart.true) (ap (λ (s : Picos). s.0) w.sum-is ∙ w.add-assign.ensures.after)
+  | then-apart w ↦ sum_took _ _ _ _ _ _ c.loop-q.invariant (w.over.ensures ∙ ap (λ n. n * c.args.self.now.l.0) w.count.ensures) (sym c.apart.ensures ∙ w.if-apart.true) (ap (λ (s : Picos). s.0) w.sum-is ∙ w.add_assign.ensures.after)
   | else-apart w ↦ sum_left _ _ _ _ _ c.loop-q.invariant (sym c.apart.ensures ∙ w.if-apart.false) (ap (λ (s : Picos). s.0) w.sum-is)
 ]

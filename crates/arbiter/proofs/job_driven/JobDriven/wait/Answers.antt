@@ -32,7 +32,7 @@ loop-q-preserved c =
     elim c.if-shares.branch [
       | then-shares w ↦
           let is : w.add.result.0 ≡ count c.args.x.now c.loop-q.q * b.conflict.0 + between b c.args.x.now c.loop-q.q = cc in
-          sum_took _ _ _ _ _ _ c.loop-q.invariant is (sym c.shares.ensures ∙ w.if-shares.true) (ap (λ (s : Picos). s.0) w.sum-is ∙ w.add-assign.ensures.after)
+          sum_took _ _ _ _ _ _ c.loop-q.invariant is (sym c.shares.ensures ∙ w.if-shares.true) (ap (λ (s : Picos). s.0) w.sum-is ∙ w.add_assign.ensures.after)
       | else-shares w ↦ sum_left _ _ _ _ _ c.loop-q.invariant (sym c.shares.ensures ∙ w.if-shares.false) (ap (λ (s : Picos). s.0) w.sum-is)
     ]
 

@@ -23,7 +23,7 @@ add-assign-requires c =
 
 pub loop-q-preserved : goal.loop-q-preserved
 loop-q-preserved c = elim c.if-shares.branch [
-  | then-shares w ↦ sum_took _ _ _ _ _ _ c.loop-q.invariant (w.add.ensures ∙ ap (λ n. c.args.self.now.banks.conflict.0 + n) w.inter.ensures) (sym c.shares.ensures ∙ w.if-shares.true) (ap (λ (s : DelayPerRequest). s.0) w.sum-is ∙ w.add-assign.ensures.after)
+  | then-shares w ↦ sum_took _ _ _ _ _ _ c.loop-q.invariant (w.add.ensures ∙ ap (λ n. c.args.self.now.banks.conflict.0 + n) w.inter.ensures) (sym c.shares.ensures ∙ w.if-shares.true) (ap (λ (s : DelayPerRequest). s.0) w.sum-is ∙ w.add_assign.ensures.after)
   | else-shares w ↦ sum_left _ _ _ _ _ c.loop-q.invariant (sym c.shares.ensures ∙ w.if-shares.false) (ap (λ (s : DelayPerRequest). s.0) w.sum-is)
 ]
 
