@@ -2,7 +2,7 @@
 use super::files::{
     FIRST, FIRST_FIVE, LATE, LINKED, ONE, PAIR, RECEIVE, SECOND, SECOND_FIVE, WRITE,
 };
-use plan::room::Room;
+use tables::room::Room;
 use report::checked::check_text;
 use std::alloc::{AllocError, Global};
 use std::test::Fail;

@@ -1,7 +1,7 @@
 //! Prints the time of each task of the station, or why its files are refused.
 #![tactic(auto)]
 
-use plan::room::Room;
+use tables::room::Room;
 use report::checked::check_text;
 use report::input::read_at_most;
 use report::listing::LONG_ENOUGH;

@@ -3,7 +3,7 @@ ghost use Rattle.std.specs.Prelude.{◌≡◌};
 ghost use Rattle.exports.specs.Exported.{Checks, CheckAnswer};
 
 use super::answer::Answer;
-use plan::room::Room;
+use tables::room::Room;
 use report::checked::check_text;
 use std::alloc::Global;
 

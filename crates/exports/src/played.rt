@@ -2,10 +2,9 @@
 use super::answer::Answer;
 use super::answers::Answers;
 use super::piles::Settings;
-use super::playing::play;
+use super::playing::{Rooms, play};
 use super::script::Script;
 use arbiter::lesser::Lesser;
-use plan::room::Room;
 use std::alloc::Global;
 use terms::refusal::Refusal;
 
@@ -13,7 +12,7 @@ use terms::refusal::Refusal;
 /// with a fault. A number that is no kind plays nothing.
 fn play_refreshed(
     kind: u8,
-    room: Room,
+    rooms: Rooms,
     file: &[u8],
     settings: &Settings,
     script: &mut Script,
@@ -22,24 +21,24 @@ fn play_refreshed(
     match kind {
         3 => {
             let pile = settings.first.over(settings.requests()?)?;
-            play(room, file, script, answers, &pile)
+            play(rooms, file, script, answers, &pile)
         }
         4 => {
             let pile = settings.first.over(settings.jobs()?)?;
-            play(room, file, script, answers, &pile)
+            play(rooms, file, script, answers, &pile)
         }
         5 => {
             let pile = settings.first.over(settings.lesser()?)?;
-            play(room, file, script, answers, &pile)
+            play(rooms, file, script, answers, &pile)
         }
         6 => {
             let first = settings.first.over(settings.requests()?)?;
             let second = settings.second.over(settings.jobs()?)?;
-            play(room, file, script, answers, &Lesser::new(first, second))
+            play(rooms, file, script, answers, &Lesser::new(first, second))
         }
         7 => {
             let below = settings.first.over(settings.lesser()?)?;
-            play(room, file, script, answers, &settings.second.over(below)?)
+            play(rooms, file, script, answers, &settings.second.over(below)?)
         }
         _ => Ok(()),
     }
@@ -48,17 +47,17 @@ fn play_refreshed(
 /// Plays a script under the pile of this kind; refuses a setting out of its range, and a file with a fault.
 fn play_under(
     kind: u8,
-    room: Room,
+    rooms: Rooms,
     file: &[u8],
     settings: &Settings,
     script: &mut Script,
     answers: &mut Answers,
 ) -> Result<(), Refusal> {
     match kind {
-        0 => play(room, file, script, answers, &settings.requests()?),
-        1 => play(room, file, script, answers, &settings.jobs()?),
-        2 => play(room, file, script, answers, &settings.lesser()?),
-        _ => play_refreshed(kind, room, file, settings, script, answers),
+        0 => play(rooms, file, script, answers, &settings.requests()?),
+        1 => play(rooms, file, script, answers, &settings.jobs()?),
+        2 => play(rooms, file, script, answers, &settings.lesser()?),
+        _ => play_refreshed(kind, rooms, file, settings, script, answers),
     }
 }
 
@@ -72,14 +71,14 @@ pub extern "C" fn station_play(
     script: &[u8],
     out: &mut [u64],
 ) -> Answer {
-    let Ok(room) = Room::reserve(heap) else {
+    let Ok(rooms) = Rooms::reserve(heap) else {
         return Answer::no_memory();
     };
     let mut script = Script::new(script);
     let mut answers = Answers::new(out);
     if let Some(kind) = script.byte() {
         if let Some(settings) = Settings::read(&mut script) {
-            let played = play_under(kind, room, file, &settings, &mut script, &mut answers);
+            let played = play_under(kind, rooms, file, &settings, &mut script, &mut answers);
             if let Err(refusal) = played {
                 answers.verdict(Err(refusal));
             }

@@ -5,6 +5,7 @@ use arbiter::arbiter::Arbiter;
 use arbiter::question::{Question as Asked, Sharing};
 use plan::plan::Plan;
 use report::checked::listing;
+use tables::held::spare::Spare;
 use tables::numbers::Numbers;
 use terms::cores::Core;
 use terms::numbers::{Picos, Requests};
@@ -87,6 +88,7 @@ pub(crate) enum Question {
 /// Puts a question to a plan.
 fn put<B: Arbiter>(
     plan: &mut Plan,
+    spare: &mut Spare,
     question: Question,
     out: &mut [Picos],
     arbiter: &B,
@@ -94,7 +96,7 @@ fn put<B: Arbiter>(
     match question {
         Question::Times => plan.times(out, arbiter),
         Question::Windows => plan.windows(out, arbiter),
-        Question::Trial { partition, core } => plan.trial(partition, core, out, arbiter),
+        Question::Trial { partition, core } => plan.trial(spare, partition, core, out, arbiter),
     }
 }
 
@@ -110,6 +112,7 @@ pub(crate) fn trial(script: &mut Script) -> Option<Question> {
 /// Puts a question with a buffer of the length that stands next, and adds the answer and the whole buffer after it.
 pub(crate) fn fill<B: Arbiter>(
     plan: &mut Plan,
+    spare: &mut Spare,
     question: Question,
     script: &mut Script,
     answers: &mut Answers,
@@ -121,7 +124,7 @@ pub(crate) fn fill<B: Arbiter>(
     }
     let mut buffer = [Picos::new(MARK); MOST_TIMES];
     let out = &mut buffer[0..length];
-    answers.verdict(put(plan, question, out, arbiter));
+    answers.verdict(put(plan, spare, question, out, arbiter));
     answers.times(out);
     Some(())
 }

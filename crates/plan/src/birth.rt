@@ -4,9 +4,9 @@ ghost use Rattle.tables.specs.Reading.{Refused};
 ghost use Rattle.plan.specs.Born.{Born, state_of};
 
 use super::plan::Plan;
-use super::room::Room;
 use analysis::placement::Placement;
 use tables::held::Tables;
+use tables::room::Room;
 use terms::refusal::Refusal;
 
 impl Plan {
@@ -14,13 +14,8 @@ impl Plan {
     pub fn from_file(room: Room, file: &[u8]) -> Result<Plan, Refusal>
         ensures { MatchResult result (λ p. Born file.now (state_of p)) (λ e. Refused file.now e) }
     {
-        let spare = room.spare;
-        let tables = Tables::read(room.tables, file)?;
+        let tables = Tables::read(room, file)?;
         let placement = Placement::unplaced();
-        Ok(Plan {
-            tables,
-            placement,
-            spare,
-        })
+        Ok(Plan { tables, placement })
     }
 }

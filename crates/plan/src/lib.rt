@@ -12,5 +12,4 @@ pub mod playing;
 pub mod questions;
 pub mod rehearsal;
 pub mod retiming;
-pub mod room;
 pub mod trial;

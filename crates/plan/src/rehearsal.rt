@@ -6,7 +6,7 @@ ghost use Rattle.plan.specs.Rehearsal.{Played, Rehearsal, states};
 use super::change::Change;
 use super::outcome::Outcome;
 use super::plan::Plan;
-use super::room::Room;
+use tables::room::Room;
 use arbiter::arbiter::Arbiter;
 use terms::numbers::Picos;
 use terms::refusal::Refusal;

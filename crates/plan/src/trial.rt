@@ -9,16 +9,18 @@ use super::plan::Plan;
 use analysis::late::first_late;
 use analysis::times::times;
 use arbiter::arbiter::Arbiter;
+use tables::held::spare::Spare;
 use terms::cores::Core;
 use terms::numbers::Picos;
 use terms::refusal::Refusal;
 
 impl Plan {
     /// Fills a buffer with the times that there would be with an unplaced partition placed on a core. The plan stays as
-    /// it is. Refused where there is no such partition or core, where the partition is placed, where the buffer is too
-    /// short, and where some task would be late.
+    /// it is; the tables are copied into the spare ones, which were reserved before. Refused where there is no such
+    /// partition or core, where the partition is placed, where the buffer is too short, and where some task would be late.
     pub fn trial<B: Arbiter>(
         &mut self,
+        spare: &mut Spare,
         partition: usize,
         core: usize,
         out: &mut [Picos],
@@ -27,8 +29,8 @@ impl Plan {
         ensures { Trial (bound arbiter.now) (state_of self.old) partition core out.old result (state_of self.new) out.new }
     {
         self.triable(partition, core, out.len())?;
-        self.spare.copy_from(&self.tables);
-        let tables = self.spare.tables();
+        spare.copy_from(&self.tables);
+        let tables = spare.tables();
         let former = self.placement.core_of(partition);
         let guard = Held {
             placement: &mut self.placement,

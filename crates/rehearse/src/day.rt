@@ -7,7 +7,7 @@ use arbiter::station::station;
 use plan::change::Change;
 use plan::outcome::Outcome;
 use plan::rehearsal::rehearse;
-use plan::room::Room;
+use tables::room::Room;
 use report::times::Times;
 use tables::Header;
 use tables::reader::Reader;

@@ -15,7 +15,7 @@ mod transcript;
 use day::rehearse_day;
 use input::first_bytes;
 use plan::outcome::Outcome;
-use plan::room::Room;
+use tables::room::Room;
 use script::Script;
 use std::io;
 use std::io::Write;

@@ -10,7 +10,7 @@ use super::times::Times;
 use arbiter::arbiter::Arbiter;
 use arbiter::station::station;
 use plan::plan::Plan;
-use plan::room::Room;
+use tables::room::Room;
 use terms::numbers::Picos;
 use terms::refusal::Refusal;
 

@@ -31,7 +31,7 @@ impl Times {
     }
 
     /// The time with this number, from 0.
-    pub(crate) fn at(&self, k: usize) -> Picos
+    pub fn at(&self, k: usize) -> Picos
         requires { k < self.now.count }
         ensures { result ≡ slice_index_or self.now.entries k no_time }
     {

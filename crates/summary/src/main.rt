@@ -6,7 +6,7 @@ mod sentences;
 mod slack;
 mod telling;
 
-use plan::room::Room;
+use tables::room::Room;
 use report::input::read_at_most;
 use std::io;
 use telling::tell_all;

@@ -6,7 +6,7 @@ use arbiter::arbiter::Arbiter;
 use arbiter::station::{Pile, station};
 use plan::adoption::UNPLACED;
 use plan::plan::Plan;
-use plan::room::Room;
+use tables::room::Room;
 use std::io;
 use tables::reader::Reader;
 use terms::numbers::Picos;

@@ -1,7 +1,6 @@
 -- What is in range in a sound row. Assumes nothing.
 use Rattle.std.proofs.Common.{◌≡◌, ℕ, zero, suc, ◌^◌, ◌<◌, ◌≤◌, Bool, true, false, not, ◌&&◌, leb, List, [], ◌∷◌, get_or, Some, None, Option, refl, arith}
 use Rattle.std.proofs.lemmas.Bool.{leb-true, leb-false, and_parts, not-false}
-use Rattle.terms.specs.Checks.{within}
 use Rattle.terms.specs.declared.numbers.Picos.{Picos}
 use Rattle.terms.specs.declared.numbers.Requests.{Requests}
 use Rattle.terms.specs.declared.refusal.Refusal.{Refusal}
@@ -9,7 +8,7 @@ use Rattle.terms.specs.declared.refusal.Refusal.TheVariants.{FieldRange, RowPart
 use Rattle.tables.specs.declared.header.Header.{Header}
 use Rattle.tables.specs.declared.model.Partition.{Partition}
 use Rattle.tables.specs.declared.model.Task.{Task}
-use Rattle.tables.specs.Kinds.{all_pass, when}
+use Rattle.tables.specs.Kinds.{all_pass, when, within}
 use Rattle.tables.specs.RowKinds.{partition_kind, task_kind, task_in_range, count_in}
 use Rattle.tables.specs.Contents.{header_in_range}
 use Rattle.tables.specs.Ranges.{Period, execution_on, requests_on, no_time, no_requests}

@@ -3,14 +3,13 @@ use Rattle.std.proofs.Common.{◌≡◌, ℕ, zero, suc, ◌+◌, ◌-◌, ◌*�
 use Rattle.std.specs.List.{AllByRecursion as All}
 use Rattle.std.proofs.lemmas.List.{map_push, length_push, get_or_push}
 use Rattle.std.proofs.lemmas.Bool.{le-leb, lt-leb, lt-ltb, eq-eqb, and_from, or_from, or_right, not_from_true}
-use Rattle.terms.specs.Checks.{within}
 use Rattle.terms.specs.declared.numbers.Picos.{Picos}
 use Rattle.terms.specs.declared.numbers.Requests.{Requests}
 use Rattle.terms.specs.declared.refusal.Refusal.TheVariants.{FieldRange, RowPartition, LinkOrder, PartitionFull}
 use Rattle.tables.specs.declared.model.Partition.{Partition}
 use Rattle.tables.specs.declared.model.Task.{Task}
 use Rattle.tables.specs.declared.model.Link.{Link}
-use Rattle.tables.specs.Kinds.{when}
+use Rattle.tables.specs.Kinds.{when, within}
 use Rattle.tables.specs.RowKinds.{partition_kind, task_kind, link_kind, partition_widths, task_widths, link_widths, task_in_range, task_fields, count_in, comes_before, rises, no_link, as_picos, as_requests}
 use Rattle.tables.specs.Ranges.{Period}
 use Rattle.tables.specs.Layout.{paired, TaskFits, LinkFits, NameFits, Rising, RisingAfter}

@@ -1,6 +1,5 @@
 -- The three kinds of row. Assumes nothing.
 use Rattle.std.specs.Prelude.{ℕ, ◌+◌, ◌-◌, ◌^◌, Bool, true, cond, not, ◌&&◌, ◌||◌, List, [], ◌∷◌, ◌++◌, map, length, Some, None, ◌==◌, nat_le, nat_lt, slice_index_or}
-use Rattle.terms.specs.Checks.{within}
 use Rattle.terms.specs.declared.numbers.Picos.{Picos}
 use Rattle.terms.specs.declared.numbers.Requests.{Requests}
 use Rattle.terms.specs.declared.refusal.Refusal.TheVariants.{FieldRange, RowPartition, LinkOrder, PartitionFull}
@@ -9,7 +8,7 @@ use Rattle.tables.specs.declared.model.Task.{Task}
 use Rattle.tables.specs.declared.model.Link.{Link}
 use Rattle.tables.specs.Packed.{bits_at, pack, octets}
 use Rattle.tables.specs.Handed.{is_partition_row, is_task_row, is_link_row}
-use Rattle.tables.specs.Kinds.{Kind, good_name, all_pass, when}
+use Rattle.tables.specs.Kinds.{Kind, good_name, all_pass, within, when}
 
 abbrev pub as_picos : ℕ → Picos
 as_picos n = record { 0 = n }

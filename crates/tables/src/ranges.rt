@@ -1,9 +1,7 @@
 //! The ranges that numbers of the tables have to keep.
 ghost use Rattle.std.specs.Prelude.{◌≡◌};
-ghost use Rattle.terms.specs.Checks.{within};
-ghost use Rattle.tables.specs.Kinds.{all_pass};
+ghost use Rattle.tables.specs.Kinds.{all_pass, within};
 
-use terms::checks::is_within;
 use terms::numbers::{Picos, Requests};
 
 /// The shortest period, in picoseconds.
@@ -14,6 +12,13 @@ pub const LONGEST_TIME: u64 = 10_000_000_000_000;
 
 /// The most requests of one job.
 pub const MOST_REQUESTS: u64 = 1_000_000;
+
+/// Whether `n` lies between `low` and `high`.
+pub fn is_within(low: u64, high: u64, n: u64) -> bool
+    ensures { result ≡ within low high n }
+{
+    low <= n && n <= high
+}
 
 /// Whether each time lies between `low` and `high` picoseconds.
 pub fn are_times_within(low: u64, high: u64, times: &[Picos]) -> bool

@@ -8,10 +8,9 @@ use super::file_row::FileRow;
 use super::model::Task;
 use super::names::is_good_name;
 use super::ranges::{
-    LONGEST_TIME, MOST_REQUESTS, SHORTEST_PERIOD, are_counts_within, are_times_within,
+    LONGEST_TIME, MOST_REQUESTS, SHORTEST_PERIOD, are_counts_within, are_times_within, is_within,
 };
 use super::row::Row;
-use terms::checks::is_within;
 use terms::numbers::{Picos, Requests};
 use terms::refusal::Refusal;
 

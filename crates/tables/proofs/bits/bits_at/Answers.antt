@@ -6,4 +6,4 @@ use Rattle.tables.proofs.bits.bits_at.Goals as goal
 pub returns : goal.returns
 returns c =
     let past = 8 * reach (c.args.from + c.args.width) - (c.args.from + c.args.width) in
-    c.cut.ensures ∙ ap (λ x. x / 2 ^ past % 2 ^ c.args.width) c.number-of-value.ensures ∙ part_is c.args.bytes.now c.args.from c.args.width c.requires.0
+    c.cut.ensures ∙ ap (λ x. x / 2 ^ past % 2 ^ c.args.width) c.number_of-value.ensures ∙ part_is c.args.bytes.now c.args.from c.args.width c.requires.0

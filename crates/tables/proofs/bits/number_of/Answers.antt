@@ -10,11 +10,11 @@ use Rattle.tables.proofs.bits.number_of.Goals as goal
 small : (i n v : ℕ) → n ≤ 7 → i < n → v < 256 ^ i → v < 2 ^ 56
 small i n v few in' h = omega (arith, octet i, pow_below (8 * i) 56 (omega arith))
 
-pub overflow-mul-value : goal.overflow-mul-value
-overflow-mul-value c = omega (arith, small c.loop-b.b-index _ c.loop-b.value c.requires c.loop-b-test.true c.loop-b.invariant.1)
+pub overflow_mul-value : goal.overflow_mul-value
+overflow_mul-value c = omega (arith, small c.loop-b.b-index _ c.loop-b.value c.requires c.loop-b-test.true c.loop-b.invariant.1)
 
-pub overflow-add-value : goal.overflow-add-value
-overflow-add-value c = omega (arith, small c.loop-b.b-index _ c.loop-b.value c.requires c.loop-b-test.true c.loop-b.invariant.1)
+pub overflow_add-value : goal.overflow_add-value
+overflow_add-value c = omega (arith, small c.loop-b.b-index _ c.loop-b.value c.requires c.loop-b-test.true c.loop-b.invariant.1)
 
 pub loop-b-preserved : goal.loop-b-preserved
 loop-b-preserved c =

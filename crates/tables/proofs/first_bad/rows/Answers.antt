@@ -9,23 +9,23 @@ loop-init g c =
     let none = c.requires.empty in
     (subst (λ xs. Sofar g.R.Row.kind c.args.reader.now.file.now c.args.partitions c.args.count c.args.reader.now.at 0 c.args.reader.now.file.now c.args.reader.now.at xs) (sym none) (start _ _ _ _ _ c.args.reader.now.ok), c.requires.none, c.requires.wide)
 
-pub returns-in-err-row : goal.returns-in-err-row
-returns-in-err-row g c =
-    let p = err_from_is_err_and c.from-residual.result c.from-residual.ensures.1 in
-    let told = c.in-err-row.ensures in
+pub returns-in_err-row : goal.returns-in_err-row
+returns-in_err-row g c =
+    let p = err_from_is_err_and c.from_residual.result c.from_residual.ensures.1 in
+    let told = c.in_err-row.ensures in
     record {
       file = told.file ∙ c.loop.invariant.0.same;
-      cases = at_err _ _ p.0 p.1 (subst (RefusedRows g.R.Row.kind c.args.reader.now.file.now c.args.partitions c.args.count c.args.reader.now.at) (sym p.2) (badly _ _ _ _ _ _ _ _ _ _ _ _ c.loop-test.true c.loop.invariant.0 told.cases c.as-slice.ensures.value));
+      cases = at_err _ _ p.0 p.1 (subst (RefusedRows g.R.Row.kind c.args.reader.now.file.now c.args.partitions c.args.count c.args.reader.now.at) (sym p.2) (badly _ _ _ _ _ _ _ _ _ _ _ _ c.loop-test.true c.loop.invariant.0 told.cases c.as_slice.ensures.value));
     }
 
 pub value-requires : goal.value-requires
-value-requires g c = ap length c.fixed.ensures ∙ found_long c.in-ok-row.ensures.cases
+value-requires g c = ap length c.fixed.ensures ∙ found_long c.in_ok-row.ensures.cases
 
 pub loop-preserved : goal.loop-preserved
 loop-preserved g c =
-    let told = c.in-ok-row.ensures in
-    let pushed = c.push-reserved.ensures.items in (
-      stepped _ _ _ _ _ _ _ _ _ _ _ _ _ _ c.loop-test.true c.loop.invariant.0 told.cases c.as-slice.ensures.value told.file
+    let told = c.in_ok-row.ensures in
+    let pushed = c.push_reserved.ensures.items in (
+      stepped _ _ _ _ _ _ _ _ _ _ _ _ _ _ c.loop-test.true c.loop.invariant.0 told.cases c.as_slice.ensures.value told.file
           (pushed ∙ ap (λ x. vec_items c.loop.out ++ x ∷ []) (c.value.ensures ∙ ap g.R.Row.kind.value c.fixed.ensures)),
       omega arith,
       omega arith,

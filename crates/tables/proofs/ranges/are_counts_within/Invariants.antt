@@ -1,6 +1,5 @@
 use Rattle.std.proofs.Common.{◌≡◌, drop}
-use Rattle.terms.specs.Checks.{within}
-use Rattle.tables.specs.Kinds.{all_pass}
+use Rattle.tables.specs.Kinds.{all_pass, within}
 use Rattle.tables.proofs.ranges.are_counts_within.Given as goal
 
 abbrev pub invariant-loop-count : goal.invariant-loop-count

@@ -6,8 +6,8 @@ use Rattle.terms.proofs.Sums.{sum_took, sum_left}
 use Rattle.arbiter.proofs.banks.Banks.between.Goals as goal
 use Rattle.arbiter.proofs.banks.Banks.between.Goals.{then-apart, else-apart}
 
-pub add-assign-requires : goal.add-assign-requires
-add-assign-requires c =
+pub add_assign-requires : goal.add_assign-requires
+add_assign-requires c =
     let b = c.args.self.now in
     let four = b.four in
     let before = partial_le b c.args.x.now c.requires c.args.p c.loop-q.q (omega arith) in

@@ -5,8 +5,8 @@ use Rattle.terms.proofs.Sums.{sum_took, sum_left, sum_le}
 use Rattle.arbiter.proofs.banks.Banks.inter.Goals as goal
 use Rattle.arbiter.proofs.banks.Banks.inter.Goals.{then-apart, else-apart}
 
-pub add-assign-requires : goal.add-assign-requires
-add-assign-requires c =
+pub add_assign-requires : goal.add_assign-requires
+add_assign-requires c =
     let b = c.args.self.now in
     let most = sum_le (apart c.args.sharing.now c.args.p) (λ _. b.l.0) 100000 c.loop-q.q (λ _ _. b.short) in
     omega arith

@@ -16,8 +16,8 @@ add-requires c =
     let is : c.over.result.0 ≡ count c.args.x.now c.loop-q.q * b.conflict.0 = cc in
     omega arith
 
-pub add-assign-requires : goal.add-assign-requires
-add-assign-requires c =
+pub add_assign-requires : goal.add_assign-requires
+add_assign-requires c =
     let b = c.args.self.now.banks in
     let four = b.four in
     let row = product_le c.args.x.now b.conflict.0 c.loop-q.q c.requires b.brief (omega arith) in

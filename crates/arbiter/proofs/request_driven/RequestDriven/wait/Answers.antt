@@ -12,8 +12,8 @@ add-requires c =
     let here = inter_le b c.args.sharing.now c.loop-q.q in
     omega arith
 
-pub add-assign-requires : goal.add-assign-requires
-add-assign-requires c =
+pub add_assign-requires : goal.add_assign-requires
+add_assign-requires c =
     let b = c.args.self.now.banks in
     let brief = b.brief in
     let four = b.four in
