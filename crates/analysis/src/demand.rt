@@ -166,7 +166,7 @@ fn asked_by(tables: &Tables, roles: &Roles, p: Core, t: Picos) -> Asked
 /// The demand of a task under examination up to `t`.
 pub(crate) fn demanded<B: Arbiter>(tables: &Tables, task: &Examined, t: Picos, arbiter: &B) -> Picos
     requires { t.0 ≤ 10 ^ 13 }
-    ensures { result.0 ≡ demand_of tables.now.tasks.items task.now (bound arbiter.now) t.0 }
+    ensures { result.0 ≡ demand_of tables.now.tasks.items task.now (B.bound arbiter.now) t.0 }
 {
     let asked = asked_by(tables, &task.roles, task.core, t);
     let mut own = task.requests;

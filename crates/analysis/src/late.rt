@@ -12,7 +12,7 @@ use terms::numbers::Picos;
 
 /// The first placed task, in priority order, that has no fixed point of its demand within its limit.
 pub fn first_late<B: Arbiter>(tables: &Tables, placement: &Placement, arbiter: &B) -> Option<usize>
-    ensures { FirstLate (bound arbiter.now) (state tables.now placement.now) result }
+    ensures { FirstLate (B.bound arbiter.now) (state tables.now placement.now) result }
 {
     let sharing = sharing_of(tables, placement);
     'tasks: for i in 0..tables.tasks().len() {

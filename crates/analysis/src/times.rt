@@ -23,7 +23,7 @@ pub(crate) fn response<B: Arbiter>(
 ) -> Option<Picos>
     requires sharing { sharing.now ≡ sharing_of placement.now.cores tables.now.links.items }
     requires task { i < vec_len tables.now.tasks }
-    ensures { TimeIs (bound arbiter.now) (state tables.now placement.now) i result }
+    ensures { TimeIs (B.bound arbiter.now) (state tables.now placement.now) i result }
 {
     let Some(task) = examine(tables, placement, sharing, i) else {
         return None;
@@ -47,7 +47,7 @@ pub fn times<B: Arbiter>(
     out: &mut [Picos],
     arbiter: &B,
 ) -> Result<(), Refusal>
-    ensures { Times (bound arbiter.now) (state tables.now placement.now) out.old result out.new }
+    ensures { Times (B.bound arbiter.now) (state tables.now placement.now) out.old result out.new }
 {
     let needed = tables.tasks().len();
     if out.len() < needed {

@@ -23,7 +23,7 @@ fn window<B: Arbiter>(
     arbiter: &B,
 ) -> Picos
     requires { sharing.now ≡ sharing_of placement.now.cores tables.now.links.items }
-    ensures { Window (bound arbiter.now) (state tables.now placement.now) partition result }
+    ensures { Window (B.bound arbiter.now) (state tables.now placement.now) partition result }
 {
     let mut largest = Picos::NONE;
     for i in 0..tables.tasks().len() {
@@ -44,7 +44,7 @@ pub fn windows<B: Arbiter>(
     out: &mut [Picos],
     arbiter: &B,
 ) -> Result<(), Refusal>
-    ensures { Windows (bound arbiter.now) (state tables.now placement.now) out.old result out.new }
+    ensures { Windows (B.bound arbiter.now) (state tables.now placement.now) out.old result out.new }
 {
     let needed = tables.partitions().len();
     if out.len() < needed {

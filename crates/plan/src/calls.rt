@@ -14,7 +14,7 @@ use terms::refusal::Refusal;
 impl Plan {
     /// Takes on another placement, unless some task would then be late.
     fn settle<B: Arbiter>(&mut self, next: Placement, arbiter: &B) -> Result<(), Refusal>
-        ensures { Call (bound arbiter.now) (state_of self.old) (Ok (replaced (state_of self.old) next.cores)) result (state_of self.new) }
+        ensures { Call (B.bound arbiter.now) (state_of self.old) (Ok (replaced (state_of self.old) next.cores)) result (state_of self.new) }
     {
         match first_late(&self.tables, &next, arbiter) {
             Some(task) => Err(Refusal::Late { task }),
@@ -29,7 +29,7 @@ impl Plan {
     /// Refused where it has not one entry for each partition, where an entry names no core, and where some task would
     /// then be late.
     pub fn adopt<B: Arbiter>(&mut self, entries: &[u8], arbiter: &B) -> Result<(), Refusal>
-        ensures { Call (bound arbiter.now) (state_of self.old) (adopt_asks (state_of self.old) entries.now) result (state_of self.new) }
+        ensures { Call (B.bound arbiter.now) (state_of self.old) (adopt_asks (state_of self.old) entries.now) result (state_of self.new) }
     {
         let next = allocation(&self.tables, entries)?;
         self.settle(next, arbiter)
@@ -43,7 +43,7 @@ impl Plan {
         core: usize,
         arbiter: &B,
     ) -> Result<(), Refusal>
-        ensures { Call (bound arbiter.now) (state_of self.old) (place_asks (state_of self.old) partition core) result (state_of self.new) }
+        ensures { Call (B.bound arbiter.now) (state_of self.old) (place_asks (state_of self.old) partition core) result (state_of self.new) }
     {
         let next = self.placed(partition, core)?;
         self.settle(next, arbiter)
@@ -52,7 +52,7 @@ impl Plan {
     /// Takes a placed partition from its core. Refused where there is no such partition, where it is not placed, and
     /// where some task would then be late.
     pub fn withdraw<B: Arbiter>(&mut self, partition: usize, arbiter: &B) -> Result<(), Refusal>
-        ensures { Call (bound arbiter.now) (state_of self.old) (withdraw_asks (state_of self.old) partition) result (state_of self.new) }
+        ensures { Call (B.bound arbiter.now) (state_of self.old) (withdraw_asks (state_of self.old) partition) result (state_of self.new) }
     {
         let next = self.withdrawn(partition)?;
         self.settle(next, arbiter)

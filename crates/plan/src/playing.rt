@@ -12,7 +12,7 @@ use terms::refusal::Refusal;
 impl Plan {
     /// Makes the call that a change stands for.
     pub fn change<B: Arbiter>(&mut self, change: &Change, arbiter: &B) -> Result<(), Refusal>
-        ensures { Call (bound arbiter.now) (state_of self.old) (asks (state_of self.old) change.now) result (state_of self.new) }
+        ensures { Call (B.bound arbiter.now) (state_of self.old) (asks (state_of self.old) change.now) result (state_of self.new) }
     {
         match change {
             Change::Adopt { entries } => self.adopt(entries.as_slice(), arbiter),

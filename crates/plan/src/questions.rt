@@ -38,7 +38,7 @@ impl Plan {
 
     /// Fills the first entries of a buffer, one for each task, with its time, or 0 where it has none.
     pub fn times<B: Arbiter>(&self, out: &mut [Picos], arbiter: &B) -> Result<(), Refusal>
-        ensures { Times (bound arbiter.now) (state_of self.now) out.old result out.new }
+        ensures { Times (B.bound arbiter.now) (state_of self.now) out.old result out.new }
     {
         times(&self.tables, &self.placement, out, arbiter)
     }
@@ -46,7 +46,7 @@ impl Plan {
     /// Fills the first entries of a buffer, one for each partition, with its window: the largest time of its tasks, or 0
     /// where there is none or one of them has none.
     pub fn windows<B: Arbiter>(&self, out: &mut [Picos], arbiter: &B) -> Result<(), Refusal>
-        ensures { Windows (bound arbiter.now) (state_of self.now) out.old result out.new }
+        ensures { Windows (B.bound arbiter.now) (state_of self.now) out.old result out.new }
     {
         windows(&self.tables, &self.placement, out, arbiter)
     }

@@ -14,7 +14,7 @@ use terms::refusal::Refusal;
 impl Plan {
     /// Makes a call, and tells what became of it.
     fn play<B: Arbiter>(&mut self, change: &Change, arbiter: &B) -> Outcome
-        ensures { Played (bound arbiter.now) (state_of self.old) change.now result (state_of self.new) }
+        ensures { Played (B.bound arbiter.now) (state_of self.old) change.now result (state_of self.new) }
     {
         let verdict = self.change(change, arbiter);
         let mut times = [Picos::NONE; 64];
@@ -32,7 +32,7 @@ pub fn rehearse<B: Arbiter>(
     log: &mut [Outcome],
     arbiter: &B,
 ) -> Result<Plan, Refusal>
-    ensures { Rehearsal (bound arbiter.now) file.now changes.now log.old (states result) log.new }
+    ensures { Rehearsal (B.bound arbiter.now) file.now changes.now log.old (states result) log.new }
 {
     let mut plan = Plan::from_file(room, file)?;
     let needed = changes.len();

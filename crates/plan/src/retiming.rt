@@ -23,7 +23,7 @@ impl Plan {
         numbers: Numbers,
         arbiter: &B,
     ) -> Result<(), Refusal>
-        ensures { Call (bound arbiter.now) (state_of self.old) (retime_asks (state_of self.old) task numbers) result (state_of self.new) }
+        ensures { Call (B.bound arbiter.now) (state_of self.old) (retime_asks (state_of self.old) task numbers) result (state_of self.new) }
     {
         if task >= self.tables.tasks().len() {
             return Err(Refusal::NoTask { task });

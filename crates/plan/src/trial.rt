@@ -26,7 +26,7 @@ impl Plan {
         out: &mut [Picos],
         arbiter: &B,
     ) -> Result<(), Refusal>
-        ensures { Trial (bound arbiter.now) (state_of self.old) partition core out.old result (state_of self.new) out.new }
+        ensures { Trial (B.bound arbiter.now) (state_of self.old) partition core out.old result (state_of self.new) out.new }
     {
         self.triable(partition, core, out.len())?;
         spare.copy_from(&self.tables);

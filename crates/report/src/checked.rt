@@ -19,7 +19,7 @@ use terms::refusal::Refusal;
 pub fn listing<B: Arbiter>(plan: &Plan, out: &mut [u8], arbiter: &B) -> Result<usize, Refusal>
     ensures enough { 3648 ≤ length out.old → is_ok result ≡ true }
     ensures within { IfOk result (λ n. n ≤ length out.old) }
-    ensures listed { Listed (bound arbiter.now) (state_of plan.now) out.old result out.new }
+    ensures listed { Listed (B.bound arbiter.now) (state_of plan.now) out.old result out.new }
 {
     let count = plan.task_count();
     let mut entries = [Picos::NONE; 64];

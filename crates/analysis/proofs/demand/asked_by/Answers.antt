@@ -6,22 +6,22 @@ use Rattle.analysis.proofs.Shares.{fit_at}
 use Rattle.analysis.proofs.demand.asked_by.Goals as goal
 use Rattle.analysis.proofs.demand.asked_by.Goals.{in-Ahead, in-Other, in-Aside}
 
-pub own-share-share-requires : goal.own-share-share-requires
-own-share-share-requires c = record { fit = fit_at _ c.tasks-tasks.result.now c.loop-k.k c.tasks-tasks.ensures.sound c.loop-k-test.true; time = c.requires }
+pub own_share-share-requires : goal.own_share-share-requires
+own_share-share-requires c = record { fit = fit_at _ c.tasks-tasks.result.now c.loop-k.k c.tasks-tasks.ensures.sound c.loop-k-test.true; time = c.requires }
 
-pub other-share-requires : goal.other-share-requires
-other-share-requires c = record { fit = fit_at _ c.tasks-tasks.result.now c.loop-k.k c.tasks-tasks.ensures.sound c.loop-k-test.true; time = c.requires }
+pub other_share-requires : goal.other_share-requires
+other_share-requires c = record { fit = fit_at _ c.tasks-tasks.result.now c.loop-k.k c.tasks-tasks.ensures.sound c.loop-k-test.true; time = c.requires }
 
-pub add-assign-requires : goal.add-assign-requires
-add-assign-requires c = let few = c.tasks-tasks.ensures.sound.few in omega (arith, c.own-share-share.ensures.small.0)
+pub add_assign-requires : goal.add_assign-requires
+add_assign-requires c = let few = c.tasks-tasks.ensures.sound.few in omega (arith, c.own_share-share.ensures.small.0)
 
-pub add-assign-requires-in-Ahead : goal.add-assign-requires-in-Ahead
-add-assign-requires-in-Ahead c = let few = c.tasks-tasks.ensures.sound.few in omega (arith, c.own-share-share.ensures.small.1)
+pub add_assign-requires-in-Ahead : goal.add_assign-requires-in-Ahead
+add_assign-requires-in-Ahead c = let few = c.tasks-tasks.ensures.sound.few in omega (arith, c.own_share-share.ensures.small.1)
 
-pub add-assign-requires-in-Other : goal.add-assign-requires-in-Other
-add-assign-requires-in-Other c =
+pub add_assign-requires-in-Other : goal.add_assign-requires-in-Other
+add_assign-requires-in-Other c =
     let few = c.tasks-tasks.ensures.sound.few in
-    omega (arith, c.other-share.ensures.small, c.loop-k.invariant.each_few c.number-n.result c.number-n.ensures.small)
+    omega (arith, c.other_share.ensures.small, c.loop-k.invariant.each_few c.number-n.result c.number-n.ensures.small)
 
 pub loop-k-preserved : goal.loop-k-preserved
 loop-k-preserved c =
@@ -36,14 +36,14 @@ loop-k-preserved c =
     let inv = c.loop-k.invariant in
     elim c.match-at.branch [
       | in-Ahead w ↦
-          let share = w.own-share-share in
+          let share = w.own_share-share in
           moved tasks roles p t (k + 1) _ _ _ _ _ _ w.execution-is w.requests-is w.others-is
-          (asking_ahead tasks roles p t k e r o inv share.result.execution.0 share.result.requests.0 w.add-assign.new.self w.add-assign-in-Ahead.new.self w.in-Ahead.ensures
-          share.ensures.execution share.ensures.requests w.add-assign.ensures.after w.add-assign-in-Ahead.ensures.after share.ensures.small.0 share.ensures.small.1)
+          (asking_ahead tasks roles p t k e r o inv share.result.execution.0 share.result.requests.0 w.add_assign.new.self w.add_assign-in-Ahead.new.self w.in-Ahead.ensures
+          share.ensures.execution share.ensures.requests w.add_assign.ensures.after w.add_assign-in-Ahead.ensures.after share.ensures.small.0 share.ensures.small.1)
       | in-Other w ↦
           moved tasks roles p t (k + 1) _ _ _ _ _ _ w.execution-is w.requests-is w.others-is
-          (asking_other tasks roles p t k e r o inv w.in-Other.q w.other-share.result.0 w.number-n.result w.add-assign-in-Other.new.self w.in-Other.ensures w.number-n.ensures.is w.number-n.ensures.small
-          w.other-share.ensures.is w.add-assign-in-Other.ensures.after w.other-share.ensures.small)
+          (asking_other tasks roles p t k e r o inv w.in-Other.q w.other_share.result.0 w.number-n.result w.add_assign-in-Other.new.self w.in-Other.ensures w.number-n.ensures.is w.number-n.ensures.small
+          w.other_share.ensures.is w.add_assign-in-Other.ensures.after w.other_share.ensures.small)
       | in-Aside w ↦ moved tasks roles p t (k + 1) _ _ _ _ _ _ w.execution-is w.requests-is w.others-is (asking_aside tasks roles p t k e r o inv w.in-Aside.ensures)
     ]
 

@@ -9,5 +9,5 @@ pub returns-else-n-gt0 : goal.returns-else-n-gt0
 returns-else-n-gt0 c =
     record {
       is = cc;
-      few = omega (arith, c.divided-up.ensures, jobs_few c.get-n.result c.get-by.result (omega (arith, c.requires.time)) (omega (arith, c.requires.period.0)));
+      few = omega (arith, c.divided_up.ensures, jobs_few c.get-n.result c.get-by.result (omega (arith, c.requires.time)) (omega (arith, c.requires.period.0)));
     }

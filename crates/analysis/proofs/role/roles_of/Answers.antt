@@ -18,11 +18,11 @@ loop-k-preserved c =
     let p = c.args.p in
     let of = c.loop-k.of in
     let k = c.loop-k.k in
-    let v = c.role-of.result in
+    let v = c.role_of.result in
     let inv = c.loop-k.invariant in
     let within : k < length of = omega (arith, inv.1, c.tasks-tasks.ensures.sound.few) in
     let ahead : List Task → Bool = λ xs. ltb k i && eqb (get_or xs k no_task).partition (get_or xs i no_task).partition in
-    let is = c.role-of.ensures ∙ ap (λ (o : Option Core). part (ahead c.tasks-tasks.result.now) p o) c.core-of.ensures
+    let is = c.role_of.ensures ∙ ap (λ (o : Option Core). part (ahead c.tasks-tasks.result.now) p o) c.core_of.ensures
     ∙ ap (λ (xs : List Task). part (ahead xs) p (core_at s.placement (get_or xs k no_task).partition)) c.tasks-tasks.ensures.is in (
       below_more (λ j. get_or (set of k v) j Aside ≡ role s i p j) k
           (λ j h. get_or-set_other of k j v Aside (omega arith) ∙ inv.0 j h)

@@ -4,7 +4,7 @@ use Rattle.analysis.specs.Demand.{State, state}
 use Rattle.analysis.specs.Windows.{Largest}
 use Rattle.analysis.proofs.Wide.{largest_none, largest_passed, largest_more}
 use Rattle.analysis.proofs.windows.window.Goals as goal
-use Rattle.analysis.proofs.windows.window.Goals.{then-task-of-partition+in-Some, else-task-of-partition}
+use Rattle.analysis.proofs.windows.window.Goals.{then-task_of-partition+in-Some, else-task_of-partition}
 
 pub loop-i-init : goal.loop-i-init
 loop-i-init g c = largest_none (g.B.Arbiter.bound c.args.arbiter.now) (state c.args.tables.now c.args.placement.now) c.args.partition
@@ -17,11 +17,11 @@ loop-i-preserved g c =
     let i = c.loop-i.i in
     let v = c.loop-i.largest in
     let here = ap (λ (x : Task). x.partition) c.task_of.ensures.is in
-    elim c.if-task-of-partition.branch [
-      | then-task-of-partition+in-Some w ↦
-          largest_more bound s p i v w.in-Some.time c.loop-i.invariant (sym here ∙ w.if-task-of-partition.true) w.in-Some.ensures c.if-task-of-partition.largest (w.largest-is ∙ w.greater-largest.ensures)
-      | else-task-of-partition w ↦
-          largest_passed bound s p i v c.if-task-of-partition.largest c.loop-i.invariant w.largest-is (λ e. w.if-task-of-partition.false (here ∙ e))
+    elim c.if-task_of-partition.branch [
+      | then-task_of-partition+in-Some w ↦
+          largest_more bound s p i v w.in-Some.time c.loop-i.invariant (sym here ∙ w.if-task_of-partition.true) w.in-Some.ensures c.if-task_of-partition.largest (w.largest-is ∙ w.greater-largest.ensures)
+      | else-task_of-partition w ↦
+          largest_passed bound s p i v c.if-task_of-partition.largest c.loop-i.invariant w.largest-is (λ e. w.if-task_of-partition.false (here ∙ e))
     ]
 
 pub returns : goal.returns
