@@ -12,7 +12,7 @@ use Rattle.analysis.specs.Times.{FirstLate, InTime, LateAt, InTimePlaced, LatePl
 use Rattle.plan.specs.Born.{Born, tables_in}
 use Rattle.plan.specs.Calls.{Asked, Call}
 use Rattle.plan.specs.History.{asks, Runs, done, next, History}
-use Rattle.plan.specs.Answers.{SameAnswer}
+use Rattle.plan.specs.Rehearsal.{SameAnswer}
 use Rattle.plan.specs.declared.change.Change.{Change}
 use Rattle.plan.proofs.Retimings.{over}
 

@@ -12,7 +12,6 @@ use Rattle.analysis.specs.Demand.{State, limit, place}
 use Rattle.analysis.specs.Easing.{Eased}
 use Rattle.analysis.specs.Times.{IsTime, LateAt, FirstLate, Shows, demand_on}
 use Rattle.plan.specs.Born.{state_of}
-use Rattle.plan.specs.Answers.{RefusedWith, SameAnswer}
 use Rattle.plan.specs.Calls.{Call}
 use Rattle.plan.specs.History.{asks, History}
 use Rattle.plan.specs.declared.change.Change.{Change}
@@ -22,7 +21,8 @@ use Rattle.plan.specs.declared.plan.Plan.{Plan}
 
 -- a call was refused as late, telling task k
 abbrev pub RefusedLate : Result (Unit {0}) Refusal → ℕ → Type 0
-RefusedLate r k = RefusedWith r (15, k)
+RefusedLate (Ok u) k = ⊥
+RefusedLate (Err e) k = told e ≡ (15, k)
 
 -- In the state n some placed task has no fixed point of its demand within its limit.
 abbrev pub SomeLate : (Question → ℕ) → State → Type 0
@@ -49,6 +49,13 @@ Easing s (Adopt entries) = ⊥
 Easing s (Place partition core) = ⊥
 Easing s (Withdraw partition) = ⊥
 Easing s (Retime task numbers) = Eased (slice_index_or s.tasks task no_task) (retimed (slice_index_or s.tasks task no_task) numbers)
+
+-- two answers with the same number that tell the same
+abbrev pub SameAnswer : Result (Unit {0}) Refusal → Result (Unit {0}) Refusal → Type 0
+SameAnswer (Ok u) (Ok v) = Unit {0}
+SameAnswer (Ok u) (Err e) = ⊥
+SameAnswer (Err e) (Ok v) = ⊥
+SameAnswer (Err e) (Err d) = told e ≡ told d
 
 -- what one call of a history promises: a change c, after those before it, whose outcome is o
 pub record After (bound : Question → ℕ) (file : List ℕ) (earlier : List Change) (c : Change) (o : Outcome) : Type 0 where

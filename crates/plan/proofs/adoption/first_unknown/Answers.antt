@@ -9,16 +9,16 @@ loop-i-preserved c =
     let cores = c.args.cores in
     let entries = c.args.entries.now in
     let i = c.loop-i.i in
-    let good : names_core cores (get_or entries i 0) ≡ true = sym c.is-known.ensures ∙ c.if-not-is-known.false in
+    let good : names_core cores (get_or entries i 0) ≡ true = sym c.is_known.ensures ∙ c.if-not-is_known.false in
     let long = length-map entries (names_core cores) in
     c.loop-i.invariant ∙ passes (map (names_core cores) entries) i (omega arith) (get_or-map (names_core cores) entries i 0 false c.loop-i-test.true ∙ good)
 
-pub returns-then-not-is-known : goal.returns-then-not-is-known
-returns-then-not-is-known c =
+pub returns-then-not-is_known : goal.returns-then-not-is_known
+returns-then-not-is_known c =
     let cores = c.args.cores in
     let entries = c.args.entries.now in
     let i = c.loop-i.i in
-    let bad : names_core cores (get_or entries i 0) ≡ false = sym c.is-known.ensures ∙ c.if-not-is-known.true in
+    let bad : names_core cores (get_or entries i 0) ≡ false = sym c.is_known.ensures ∙ c.if-not-is_known.true in
     let long = length-map entries (names_core cores) in
     sym (c.loop-i.invariant ∙ stops (map (names_core cores) entries) i (omega arith) (get_or-map (names_core cores) entries i 0 false c.loop-i-test.true ∙ bad))
 

@@ -9,7 +9,7 @@ loop-i-init c = c.unplaced-next.ensures
 
 pub loop-i-preserved : goal.loop-i-preserved
 loop-i-preserved c =
-    c.put.ensures ∙ ap (λ o. set c.loop-i.next.cores c.loop-i.i o) c.of-number.ensures
+    c.put.ensures ∙ ap (λ o. set c.loop-i.next.cores c.loop-i.i o) c.of_number.ensures
     ∙ ap (λ xs. set xs c.loop-i.i (numbered (get_or c.args.entries.now c.loop-i.i 0))) c.loop-i.invariant
     ∙ laid_more c.args.entries.now c.loop-i.i c.loop-i-test.true c.requires
 

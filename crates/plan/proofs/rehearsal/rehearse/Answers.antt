@@ -6,12 +6,12 @@ use Rattle.plan.proofs.rehearsal.rehearse.Goals as goal
 
 pub loop-k-init : goal.loop-k-init
 loop-k-init g c =
-    let s = state_of c.in-ok-plan.plan in
+    let s = state_of c.in_ok-plan.plan in
     record {
       long = refl;
       each = λ j d below there. absurd (omega arith);
       rest = λ j h. refl;
-      history = record { birth = s; born = c.in-ok-plan.ensures; runs = done s };
+      history = record { birth = s; born = c.in_ok-plan.ensures; runs = done s };
     }
 
 pub loop-k-preserved : goal.loop-k-preserved

@@ -16,12 +16,12 @@ returns-in-Ok c = record {
 
 pub returns-in-Err : goal.returns-in-Err
 returns-in-Err c = record {
-  enough = λ h. c.write-refusal.ensures.enough (omega (arith, h));
-  within = written_within (refusal_text (told c.in-Err.refusal)) c.args.out.now c.write-refusal.result c.write-refusal.new.out c.write-refusal.ensures.written;
+  enough = λ h. c.write_refusal.ensures.enough (omega (arith, h));
+  within = written_within (refusal_text (told c.in-Err.refusal)) c.args.out.now c.write_refusal.result c.write_refusal.new.out c.write_refusal.ensures.written;
   checked =
       elim c.in-Err.ensures [
-        | inl refused ↦ checked_refused c.args.file.now c.args.allocation.now c.args.out.now c.write-refusal.result c.write-refusal.new.out (told c.in-Err.refusal) refused c.write-refusal.ensures.written
-        | inr judged ↦ checked_answered c.args.file.now c.args.allocation.now c.args.out.now c.write-refusal.result c.write-refusal.new.out
-            judged.0 (Err c.in-Err.refusal) judged.1 judged.2 c.write-refusal.ensures.written
+        | inl refused ↦ checked_refused c.args.file.now c.args.allocation.now c.args.out.now c.write_refusal.result c.write_refusal.new.out (told c.in-Err.refusal) refused c.write_refusal.ensures.written
+        | inr judged ↦ checked_answered c.args.file.now c.args.allocation.now c.args.out.now c.write_refusal.result c.write_refusal.new.out
+            judged.0 (Err c.in-Err.refusal) judged.1 judged.2 c.write_refusal.ensures.written
       ];
 }

@@ -7,15 +7,15 @@ use Rattle.report.specs.declared.judged.Adopted.{Adopted}
 use Rattle.report.proofs.Judging.{judged}
 use Rattle.report.proofs.checked.judge.Goals as goal
 
-pub returns-in-err-adopt : goal.returns-in-err-adopt
-returns-in-err-adopt c =
-    let p = err_from_is_err_and c.from-residual-in-err-adopt.result c.from-residual-in-err-adopt.ensures.1 in
+pub returns-in_err-adopt : goal.returns-in_err-adopt
+returns-in_err-adopt c =
+    let p = err_from_is_err_and c.from_residual-in_err-adopt.result c.from_residual-in_err-adopt.ensures.1 in
     let is = p.1 ∙ ap Err p.2 in
-    let j = judged c.args.file.now c.args.allocation.now (state_of c.in-ok-plan.plan) (state_of c.adopt.new.self) c.in-ok-pile.pile c.cores.result _ (Err c.in-err-adopt.field-0.0)
-    c.in-ok-plan.ensures c.cores.ensures.is c.in-ok-pile.ensures c.in-err-adopt.ensures in
-    subst (λ (r : Result Adopted Refusal). Judgement c.args.file.now c.args.allocation.now r) (sym is) (inr (c.in-ok-pile.pile, state_of c.adopt.new.self, j))
+    let j = judged c.args.file.now c.args.allocation.now (state_of c.in_ok-plan.plan) (state_of c.adopt.new.self) c.in_ok-pile.pile c.cores.result _ (Err c.in_err-adopt.field-0.0)
+    c.in_ok-plan.ensures c.cores.ensures.is c.in_ok-pile.ensures c.in_err-adopt.ensures in
+    subst (λ (r : Result Adopted Refusal). Judgement c.args.file.now c.args.allocation.now r) (sym is) (inr (c.in_ok-pile.pile, state_of c.adopt.new.self, j))
 
 pub returns : goal.returns
 returns c =
-    judged c.args.file.now c.args.allocation.now (state_of c.in-ok-plan.plan) (state_of c.adopt.new.self) c.in-ok-pile.pile c.cores.result _ (Ok tt)
-    c.in-ok-plan.ensures c.cores.ensures.is c.in-ok-pile.ensures c.in-ok-adopt.ensures
+    judged c.args.file.now c.args.allocation.now (state_of c.in_ok-plan.plan) (state_of c.adopt.new.self) c.in_ok-pile.pile c.cores.result _ (Ok tt)
+    c.in_ok-plan.ensures c.cores.ensures.is c.in_ok-pile.ensures c.in_ok-adopt.ensures

@@ -6,9 +6,9 @@ use Rattle.report.proofs.checked.listing.Goals as goal
 
 pub returns : goal.returns
 returns g c = record {
-  enough = c.write-listing.ensures.enough;
-  within = written_within _ c.args.out.now c.write-listing.result c.write-listing.new.out c.write-listing.ensures.written;
+  enough = c.write_listing.ensures.enough;
+  within = written_within _ c.args.out.now c.write_listing.result c.write_listing.new.out c.write_listing.ensures.written;
   listed =
-      listed_times (g.B.Arbiter.bound c.args.arbiter.now) (state_of c.args.plan.now) _ c.times.new.out c.new.result c.in-ok-times.ensures.1
-      c.new.ensures.entries (c.new.ensures.count ∙ min-eq_left c.task-count-count.ensures.few ∙ c.task-count-count.ensures.is) c.args.out.now c.write-listing.new.out c.write-listing.result c.write-listing.ensures.written;
+      listed_times (g.B.Arbiter.bound c.args.arbiter.now) (state_of c.args.plan.now) _ c.times.new.out c.new.result c.in_ok-times.ensures.1
+      c.new.ensures.entries (c.new.ensures.count ∙ min-eq_left c.task_count-count.ensures.few ∙ c.task_count-count.ensures.is) c.args.out.now c.write_listing.new.out c.write_listing.result c.write_listing.ensures.written;
 }

@@ -11,5 +11,5 @@ returns-else-n-lt10 t c =
     let fits : n < 2 ^ 64 = omega arith in
     let step = length_step n c.if-n-lt10.false fits in
     let most = length_most n fits in
-    let rest = c.number-length.ensures.is in
+    let rest = c.number_length.ensures.is in
     record { is = omega arith; few = omega arith }

@@ -11,8 +11,8 @@ returns-then-n-lt10 t c =
     let room : 0 < length c.args.out.now = omega (arith, c.requires, length_digit c.args.n c.if-n-lt10.true) in
     put_digit c.args.n c.args.out.now c.if-n-lt10.true room
 
-pub put-number-at-requires : goal.put-number-at-requires
-put-number-at-requires t c =
+pub put_number-at-requires : goal.put_number-at-requires
+put_number-at-requires t c =
     let n = c.args.n in
     let fits : n < 2 ^ 64 = omega arith in
     let step = length_step n c.if-n-lt10.false fits in (
@@ -24,16 +24,16 @@ pub bounds-out-at : goal.bounds-out-at
 bounds-out-at t c =
     let n = c.args.n in
     let fits : n < 2 ^ 64 = omega arith in
-    omega (arith, c.requires, length_step n c.if-n-lt10.false fits, c.put-number-at.ensures.long, c.put-number-at.auto.out)
+    omega (arith, c.requires, length_step n c.if-n-lt10.false fits, c.put_number-at.ensures.long, c.put_number-at.auto.out)
 
-pub overflow-add-result : goal.overflow-add-result
-overflow-add-result t c =
+pub overflow_add-result : goal.overflow_add-result
+overflow_add-result t c =
     let n = c.args.n in
     let fits : n / 10 < 2 ^ 64 = omega arith in
-    omega (arith, length_most (n / 10) fits, c.put-number-at.ensures.long)
+    omega (arith, length_most (n / 10) fits, c.put_number-at.ensures.long)
 
 pub returns : goal.returns
 returns t c =
     let n = c.args.n in
     let fits : n < 2 ^ 64 = omega arith in
-    put_step n c.put-number-at.result c.args.out.now c.put-number-at.new.out c.if-n-lt10.false fits c.requires c.put-number-at.ensures
+    put_step n c.put_number-at.result c.args.out.now c.put_number-at.new.out c.if-n-lt10.false fits c.requires c.put_number-at.ensures

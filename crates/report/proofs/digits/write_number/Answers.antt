@@ -8,8 +8,8 @@ pub returns : goal.returns
 returns c =
     let n = c.args.n in
     let fits : n < 2 ^ 64 = omega arith in
-    let text = put_reads (decimal n) c.args.out.now c.put-number.new.out c.put-number.result c.put-number.ensures in
+    let text = put_reads (decimal n) c.args.out.now c.put_number.new.out c.put_number.result c.put_number.ensures in
     record {
-      written = (omega (arith, c.number-length-needed.ensures.is), c.put-number.ensures);
+      written = (omega (arith, c.number_length-needed.ensures.is), c.put_number.ensures);
       back = subst (λ (ds : List ℕ). IsNumeral 10 ds × (digits_value 10 ds ≡ n)) (sym text) (decimal_is_IsNumeral n fits);
     }

@@ -4,6 +4,6 @@ use Rattle.report.proofs.refused.refusal_length.Goals as goal
 
 pub returns : goal.returns
 returns c = record {
-  is = c.line-length.ensures.is ∙ ap length (refused_is c.args.refusal.now c.number.result c.tells.result c.number.ensures c.tells.ensures);
-  few = c.line-length.ensures.few;
+  is = c.line_length.ensures.is ∙ ap length (refused_is c.args.refusal.now c.number.result c.tells.result c.number.ensures c.tells.ensures);
+  few = c.line_length.ensures.few;
 }

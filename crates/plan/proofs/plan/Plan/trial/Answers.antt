@@ -11,21 +11,21 @@ use Rattle.plan.proofs.plan.Plan.trial.Goals.{After-put}
 -- what was examined: the copy of the tables, with the partition placed
 examined : (g : given.Over) (c : After-put g) → over (tabled c.tables-tables.result.now) c.put.new.self.cores ≡ tried (state_of c.args.self.now) c.args.partition c.args.core
 examined g c =
-    tried_on (state_of c.args.self.now) c.args.partition c.args.core (tabled c.tables-tables.result.now) c.put.new.self.cores c.of-number.result
-    (ap tabled c.tables-tables.ensures ∙ c.copy-from.ensures) c.put.ensures c.of-number.ensures
+    tried_on (state_of c.args.self.now) c.args.partition c.args.core (tabled c.tables-tables.result.now) c.put.new.self.cores c.of_number.result
+    (ap tabled c.tables-tables.ensures ∙ c.copy_from.ensures) c.put.ensures c.of_number.ensures
 
 -- the guard has put the partition back
-restored : (g : given.Over) (c : After-put g) (after : List (Option Core)) → after ≡ set c.put.new.self.cores c.args.partition c.core-of-former.result → over (tabled c.args.self.now.tables) after ≡ state_of c.args.self.now
+restored : (g : given.Over) (c : After-put g) (after : List (Option Core)) → after ≡ set c.put.new.self.cores c.args.partition c.core_of-former.result → over (tabled c.args.self.now.tables) after ≡ state_of c.args.self.now
 restored g c after back =
     let own = c.args.self.now in
-    ap (λ q. over (tabled own.tables) q) (put_back own.placement.cores c.put.new.self.cores after c.args.partition c.of-number.result c.core-of-former.result c.put.ensures c.core-of-former.ensures back)
+    ap (λ q. over (tabled own.tables) q) (put_back own.placement.cores c.put.new.self.cores after c.args.partition c.of_number.result c.core_of-former.result c.put.ensures c.core_of-former.ensures back)
 
 pub returns-in-Some : goal.returns-in-Some
 returns-in-Some g c =
     let d = (goal.at.returns-in-Some g c).After-put in
     record {
       stands = restored g d c.drop-guard.new.self.0.cores c.drop-guard.ensures;
-      answer = trial_late (state_of c.args.self.now) c.args.partition c.args.core (g.B.Arbiter.bound c.args.arbiter.now) c.args.out.now c.in-ok-triable.ensures _ c.in-Some.task (examined g d) c.in-Some.ensures;
+      answer = trial_late (state_of c.args.self.now) c.args.partition c.args.core (g.B.Arbiter.bound c.args.arbiter.now) c.args.out.now c.in_ok-triable.ensures _ c.in-Some.task (examined g d) c.in-Some.ensures;
     }
 
 pub returns : goal.returns
@@ -33,5 +33,5 @@ returns g c =
     let d = (goal.at.returns g c).After-put in
     record {
       stands = restored g d c.drop-guard-2.new.self.0.cores c.drop-guard-2.ensures;
-      answer = trial_done (state_of c.args.self.now) c.args.partition c.args.core (g.B.Arbiter.bound c.args.arbiter.now) c.args.out.now c.in-ok-triable.ensures _ c.times.result c.times.new.out (examined g d) c.in-default.ensures c.times.ensures;
+      answer = trial_done (state_of c.args.self.now) c.args.partition c.args.core (g.B.Arbiter.bound c.args.arbiter.now) c.args.out.now c.in_ok-triable.ensures _ c.times.result c.times.new.out (examined g d) c.in_default.ensures c.times.ensures;
     }
