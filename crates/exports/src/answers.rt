@@ -44,7 +44,7 @@ impl<'a> Answers<'a> {
     }
 
     /// Adds the two numbers of a result.
-    pub(crate) fn res(&mut self, res: Result<usize, Refusal>) {
+    pub(crate) fn result(&mut self, res: Result<usize, Refusal>) {
         let answer = Answer::of(res);
         self.count(answer.number);
         self.count(answer.tells);

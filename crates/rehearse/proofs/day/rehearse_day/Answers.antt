@@ -15,31 +15,31 @@ use Rattle.rehearse.specs.Day.{Day}
 use Rattle.rehearse.proofs.Days.{made_ok}
 use Rattle.rehearse.proofs.day.rehearse_day.Goals as goal
 
-pub returns-in-err-plan : goal.returns-in-err-plan
-returns-in-err-plan c =
-    let p = err_from_is_err_and c.from-residual-in-err-plan.result c.from-residual-in-err-plan.ensures.1 in
+pub returns-in_err-plan : goal.returns-in_err-plan
+returns-in_err-plan c =
+    let p = err_from_is_err_and c.from_residual-in_err-plan.result c.from_residual-in_err-plan.ensures.1 in
     let is = p.1 ∙ ap Err p.2 in
     subst (λ (r : Result Times Refusal). Day c.args.file.now c.args.changes.now c.args.log.now r c.rehearse.new.log) (sym is)
     (record {
-      header = c.header-of-header.result;
-      read = c.header-of-header.ensures.is;
-      pile = c.in-ok-pile.pile;
-      ours = made_ok (first_out 0 (within 1 4 c.header-of-header.result.cores ∷ [])) c.in-ok-pile.pile (OurPile c.header-of-header.result.cores) c.in-ok-pile.ensures;
-      ends = c.in-err-plan.ensures;
+      header = c.header_of-header.result;
+      read = c.header_of-header.ensures.is;
+      pile = c.in_ok-pile.pile;
+      ours = made_ok (first_out 0 (within 1 4 c.header_of-header.result.cores ∷ [])) c.in_ok-pile.pile (OurPile c.header_of-header.result.cores) c.in_ok-pile.ensures;
+      ends = c.in_err-plan.ensures;
     })
 
 pub returns : goal.returns
 returns c = record {
-  header = c.header-of-header.result;
-  read = c.header-of-header.ensures.is;
-  pile = c.in-ok-pile.pile;
-  ours = made_ok (first_out 0 (within 1 4 c.header-of-header.result.cores ∷ [])) c.in-ok-pile.pile (OurPile c.header-of-header.result.cores) c.in-ok-pile.ensures;
+  header = c.header_of-header.result;
+  read = c.header_of-header.ensures.is;
+  pile = c.in_ok-pile.pile;
+  ours = made_ok (first_out 0 (within 1 4 c.header_of-header.result.cores ∷ [])) c.in_ok-pile.pile (OurPile c.header_of-header.result.cores) c.in_ok-pile.ensures;
   ends = record {
-    z = state_of c.in-ok-plan.plan;
-    rehearsed = c.in-ok-plan.ensures;
+    z = state_of c.in_ok-plan.plan;
+    rehearsed = c.in_ok-plan.ensures;
     shown =
-        subst (λ (ts : List Picos). Filled (length (state_of c.in-ok-plan.plan).tasks) (Shows (pile_bound c.in-ok-pile.pile) (state_of c.in-ok-plan.plan)) (replicate 64 no_time) ts)
-        (sym c.new.ensures.entries) c.in-ok-times.ensures.1;
-    counted = c.new.ensures.count ∙ min-eq_left (counts c.header-of-header.result c.header-of-header.ensures.ranged).tasks;
+        subst (λ (ts : List Picos). Filled (length (state_of c.in_ok-plan.plan).tasks) (Shows (pile_bound c.in_ok-pile.pile) (state_of c.in_ok-plan.plan)) (replicate 64 no_time) ts)
+        (sym c.new.ensures.entries) c.in_ok-times.ensures.1;
+    counted = c.new.ensures.count ∙ min-eq_left (counts c.header_of-header.result c.header_of-header.ensures.ranged).tasks;
   };
 }

@@ -9,15 +9,15 @@ pub returns : goal.returns
 returns c =
     let text = c.args.self.now.rest.now in
     let mark = c.args.self.now.mark in
-    let n = c.first-mark-end.result in
+    let n = c.first_mark-end.result in
     record {
       steps = (
         c.if-self.false,
         elim c.if-end-text.branch [
           | then-end-text w ↦ subst (λ (p : Pieces). Cut mark text (take (n - 0) text) p.rest.now p.done) (sym w.self-is)
-              (cut_more mark text (take (length text - (n + 1)) (drop (n + 1) text)) (n - 0) n (omega arith) c.first-mark-end.ensures.before _ c.if-self.false w.if-end-text.true (c.first-mark-end.ensures.found w.if-end-text.true) (all_behind text (n + 1)))
+              (cut_more mark text (take (length text - (n + 1)) (drop (n + 1) text)) (n - 0) n (omega arith) c.first_mark-end.ensures.before _ c.if-self.false w.if-end-text.true (c.first_mark-end.ensures.found w.if-end-text.true) (all_behind text (n + 1)))
           | else-end-text w ↦ subst (λ (p : Pieces). Cut mark text (take (n - 0) text) p.rest.now p.done) (sym w.self-is)
-              (cut_at mark text text (n - 0) n (omega arith) c.first-mark-end.ensures.before true c.first-mark-end.ensures.within (omega (arith, w.if-end-text.false, c.first-mark-end.ensures.within)))
+              (cut_at mark text text (n - 0) n (omega arith) c.first_mark-end.ensures.before true c.first_mark-end.ensures.within (omega (arith, w.if-end-text.false, c.first_mark-end.ensures.within)))
         ],
       );
       goes = search rules;
