@@ -2,10 +2,10 @@
 use super::files::{
     FIRST, FIRST_FIVE, LATE, LINKED, ONE, PAIR, RECEIVE, SECOND, SECOND_FIVE, WRITE,
 };
-use tables::room::Room;
 use report::checked::check_text;
 use std::alloc::{AllocError, Global};
 use std::test::Fail;
+use tables::room::Room;
 use terms::refusal::Refusal;
 
 /// A file of three parts and an end.

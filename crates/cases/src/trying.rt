@@ -3,9 +3,9 @@ use super::checking::joined;
 use super::files::{PAIR, RECEIVE, WRITE};
 use arbiter::station::station;
 use plan::plan::Plan;
+use std::test::Fail;
 use tables::held::spare::Spare;
 use tables::room::Room;
-use std::test::Fail;
 use terms::numbers::Picos;
 use terms::refusal::Refusal;
 
@@ -45,10 +45,16 @@ fn trials_refused(rt: HostRuntime) -> Result<(), Fail> {
     let pile = station(plan.cores())?;
     plan.place(0, 0, &pile)?;
     let mut out = [Picos::new(7); 1];
-    assert!(rt; plan.trial(&mut spare, 2, 2, &mut out, &pile) == Err(Refusal::NoPartition { partition: 2 }));
+    assert!(rt;
+        plan.trial(&mut spare, 2, 2, &mut out, &pile) == Err(Refusal::NoPartition { partition: 2 })
+    );
     assert!(rt; plan.trial(&mut spare, 0, 2, &mut out, &pile) == Err(Refusal::NoCore { core: 2 }));
-    assert!(rt; plan.trial(&mut spare, 0, 1, &mut out, &pile) == Err(Refusal::Placed { partition: 0 }));
-    assert!(rt; plan.trial(&mut spare, 1, 1, &mut out, &pile) == Err(Refusal::ShortBuffer { needed: 2 }));
+    assert!(rt;
+        plan.trial(&mut spare, 0, 1, &mut out, &pile) == Err(Refusal::Placed { partition: 0 })
+    );
+    assert!(rt;
+        plan.trial(&mut spare, 1, 1, &mut out, &pile) == Err(Refusal::ShortBuffer { needed: 2 })
+    );
     assert!(rt; out[0].get() == 7);
     Ok(())
 }

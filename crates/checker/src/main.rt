@@ -1,12 +1,12 @@
 //! Prints the time of each task of the station, or why its files are refused.
 #![tactic(auto)]
 
-use tables::room::Room;
 use report::checked::check_text;
 use report::input::read_at_most;
 use report::listing::LONG_ENOUGH;
 use std::io;
 use std::io::Write;
+use tables::room::Room;
 
 /// Reads station.tab and station.alloc in the working folder, each as far as one byte past the longest that there is.
 fn main(rt: HostRuntime) -> io::Result<()> {

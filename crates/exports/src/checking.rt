@@ -3,9 +3,9 @@ ghost use Rattle.std.specs.Prelude.{◌≡◌};
 ghost use Rattle.exports.specs.Exported.{Checks, CheckAnswer};
 
 use super::answer::Answer;
-use tables::room::Room;
 use report::checked::check_text;
 use std::alloc::Global;
+use tables::room::Room;
 
 /// Writes what check prints into the front of a buffer, and answers its length or why it was refused.
 fn check_in(room: Room, file: &[u8], allocation: &[u8], out: &mut [u8]) -> Answer

@@ -6,8 +6,8 @@ ghost use Rattle.plan.specs.Rehearsal.{Played, Rehearsal, states};
 use super::change::Change;
 use super::outcome::Outcome;
 use super::plan::Plan;
-use tables::room::Room;
 use arbiter::arbiter::Arbiter;
+use tables::room::Room;
 use terms::numbers::Picos;
 use terms::refusal::Refusal;
 

@@ -7,10 +7,10 @@ use arbiter::station::station;
 use plan::change::Change;
 use plan::outcome::Outcome;
 use plan::rehearsal::rehearse;
-use tables::room::Room;
 use report::times::Times;
 use tables::Header;
 use tables::reader::Reader;
+use tables::room::Room;
 use terms::numbers::Picos;
 use terms::refusal::Refusal;
 

@@ -15,10 +15,10 @@ mod transcript;
 use day::rehearse_day;
 use input::first_bytes;
 use plan::outcome::Outcome;
-use tables::room::Room;
 use script::Script;
 use std::io;
 use std::io::Write;
+use tables::room::Room;
 use terms::numbers::Picos;
 use transcript::{refusal_text, transcript};
 

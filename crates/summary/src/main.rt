@@ -6,9 +6,9 @@ mod sentences;
 mod slack;
 mod telling;
 
-use tables::room::Room;
 use report::input::read_at_most;
 use std::io;
+use tables::room::Room;
 use telling::tell_all;
 
 /// Reads station.tab and station.alloc in the working folder, each as far as one byte past the longest that there is.

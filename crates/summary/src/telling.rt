@@ -6,9 +6,9 @@ use arbiter::arbiter::Arbiter;
 use arbiter::station::{Pile, station};
 use plan::adoption::UNPLACED;
 use plan::plan::Plan;
-use tables::room::Room;
 use std::io;
 use tables::reader::Reader;
+use tables::room::Room;
 use terms::numbers::Picos;
 use terms::refusal::Refusal;
 

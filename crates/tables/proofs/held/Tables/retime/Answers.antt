@@ -34,11 +34,11 @@ invariant_of-self c =
       timed = v.timed;
       member = each_set (λ (y : Task). y.partition < vec_len v.partitions) no_task ts i x (subst (λ (y : Task). y.partition < vec_len v.partitions) (sym is) (v.member i within)) v.member;
       due =
-        each_set (λ (y : Task). Period y.period.0 × ((1 ≤ y.deadline.0) × (y.deadline.0 ≤ 10 ^ 13))) no_task ts i x
-            (subst (λ (y : Task). Period y.period.0 × ((1 ≤ y.deadline.0) × (y.deadline.0 ≤ 10 ^ 13))) (sym is) (t.slow, t.due)) v.due;
+          each_set (λ (y : Task). Period y.period.0 × ((1 ≤ y.deadline.0) × (y.deadline.0 ≤ 10 ^ 13))) no_task ts i x
+          (subst (λ (y : Task). Period y.period.0 × ((1 ≤ y.deadline.0) × (y.deadline.0 ≤ 10 ^ 13))) (sym is) (t.slow, t.due)) v.due;
       job =
-        each_set (λ (y : Task). (q : ℕ) → (execution_on y q ≤ 10 ^ 13) × (requests_on y q ≤ 10 ^ 6)) no_task ts i x
-            (subst (λ (y : Task). (q : ℕ) → (execution_on y q ≤ 10 ^ 13) × (requests_on y q ≤ 10 ^ 6)) (sym is) t.job) v.job;
+          each_set (λ (y : Task). (q : ℕ) → (execution_on y q ≤ 10 ^ 13) × (requests_on y q ≤ 10 ^ 6)) no_task ts i x
+          (subst (λ (y : Task). (q : ℕ) → (execution_on y q ≤ 10 ^ 13) × (requests_on y q ≤ 10 ^ 6)) (sym is) t.job) v.job;
     }
 
 pub returns : goal.returns
