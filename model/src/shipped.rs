@@ -53,13 +53,13 @@ fn runs(kind: &str, answers: &[String]) -> String {
 }
 
 /// What becomes of each file of the table of faults.
-fn faults_text(cases: &[faults::Case]) -> String {
-    cases.iter().map(|case| format!("{}: {}\n", case.what, answer(&case.file))).collect()
+pub fn faults_text(cases: &[faults::Case]) -> Vec<u8> {
+    cases.iter().map(|case| format!("{}: {}\n", case.what, answer(&case.file))).collect::<String>().into_bytes()
 }
 
 /// What becomes of a table file cut after each byte, and with each single bit turned, where neighbours with the same
-/// answer share a line; then of each file of the table of faults.
-pub fn damaged_text(tab: &[u8], cases: &[faults::Case]) -> Vec<u8> {
+/// answer share a line.
+pub fn damaged_text(tab: &[u8]) -> Vec<u8> {
     let cut: Vec<String> = (0..=tab.len()).map(|n| answer(&tab[..n])).collect();
     let turned: Vec<String> = (0..8 * tab.len())
         .map(|bit| {
@@ -68,7 +68,7 @@ pub fn damaged_text(tab: &[u8], cases: &[faults::Case]) -> Vec<u8> {
             answer(&other)
         })
         .collect();
-    (runs("prefix", &cut) + &runs("bit", &turned) + &faults_text(cases)).into_bytes()
+    (runs("prefix", &cut) + &runs("bit", &turned)).into_bytes()
 }
 
 /// Two cores, two partitions with one task each and a link between them.
@@ -192,7 +192,8 @@ pub fn files(text: &str, changes: &[u8]) -> Result<Vec<(String, Vec<u8>)>, Strin
     let rehearsal = rehearse_text(&tab, &changes);
     let cases = faults::cases();
     let bases = faults::bases();
-    let damaged = damaged_text(&tab, &cases);
+    let damaged = damaged_text(&tab);
+    let faulty = faults_text(&cases);
     let mut all: Vec<(String, Vec<u8>)> = vec![];
     for (place, bytes) in [
         ("example/station.tab", &tab),
@@ -200,9 +201,9 @@ pub fn files(text: &str, changes: &[u8]) -> Result<Vec<(String, Vec<u8>)>, Strin
         ("example/check.stdout", &check),
         ("example/summary.stdout", &summary),
         ("example/rehearse.stdout", &rehearsal),
-        ("crates/check/data/station.tab", &tab),
-        ("crates/check/data/station.alloc", &alloc),
-        ("crates/check/stdout", &check),
+        ("crates/checker/data/station.tab", &tab),
+        ("crates/checker/data/station.alloc", &alloc),
+        ("crates/checker/stdout", &check),
         ("crates/summary/data/station.tab", &tab),
         ("crates/summary/data/station.alloc", &alloc),
         ("crates/summary/stdout", &summary),
@@ -210,11 +211,12 @@ pub fn files(text: &str, changes: &[u8]) -> Result<Vec<(String, Vec<u8>)>, Strin
         ("crates/rehearse/data/station.changes", &changes),
         ("crates/rehearse/stdout", &rehearsal),
         ("crates/damaged/data/station.tab", &tab),
-        ("crates/damaged/data/small.tab", &bases.small),
-        ("crates/damaged/data/crowd.tab", &bases.crowd),
-        ("crates/damaged/data/largest.tab", &bases.largest),
-        ("crates/damaged/data/faults.txt", &faults::table_text(&cases)),
+        ("crates/faulty/data/small.tab", &bases.small),
+        ("crates/faulty/data/crowd.tab", &bases.crowd),
+        ("crates/faulty/data/largest.tab", &bases.largest),
+        ("crates/faulty/data/faults.txt", &faults::table_text(&cases)),
         ("crates/damaged/stdout", &damaged),
+        ("crates/faulty/stdout", &faulty),
     ] {
         all.push((place.to_string(), bytes.clone()));
     }

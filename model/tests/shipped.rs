@@ -28,7 +28,7 @@ fn every_file_is_current() {
 /// The bytes that a line of the table of faults tells.
 fn told_by(line: &str) -> Vec<u8> {
     let words: Vec<&str> = line.splitn(5, ' ').collect();
-    let base = fs::read(top().join("crates/damaged/data").join(words[0])).unwrap();
+    let base = fs::read(top().join("crates/faulty/data").join(words[0])).unwrap();
     let (front, back): (usize, usize) = (words[1].parse().unwrap(), words[3].parse().unwrap());
     let digits = words[2].as_bytes().chunks(2);
     let middle = digits.map(|two| u8::from_str_radix(std::str::from_utf8(two).unwrap(), 16).unwrap());
@@ -39,7 +39,7 @@ fn told_by(line: &str) -> Vec<u8> {
 #[test]
 fn the_table_of_faults() {
     let cases = faults::cases();
-    let table = fs::read_to_string(top().join("crates/damaged/data/faults.txt")).unwrap();
+    let table = fs::read_to_string(top().join("crates/faulty/data/faults.txt")).unwrap();
     let mut offsets = vec![BTreeSet::new(); 8];
     let mut names = BTreeSet::new();
     assert_eq!(table.lines().count(), cases.len());

@@ -1,5 +1,5 @@
 -- Where tasks are eased, no demand grows and every task in time stays so. Assumes nothing.
-use Rattle.std.proofs.Common.{◌≡◌, ℕ, zero, suc, ◌+◌, ◌-◌, ◌*◌, ◌/◌, ◌%◌, ◌<◌, ◌≤◌, min, Bool, true, false, cond, eqb, List, [], ◌∷◌, length, get_or, Some, None, Option, sym, refl, ap, ◌∙◌, subst, le_trans, mod-lt, add-mul, mul-le-mul, mul-le-mul_left, one-mul, div-add-mod', arith}
+use Rattle.std.proofs.Common.{◌≡◌, ℕ, zero, suc, ◌+◌, ◌-◌, ◌*◌, ◌<◌, ◌≤◌, min, true, false, cond, eqb, List, length, get_or, Some, None, Option, sym, refl, ap, ◌∙◌, subst, mod-lt, add-mul, mul-le-mul, mul-le-mul_left, one-mul, div-add-mod', arith}
 use Rattle.std.proofs.lemmas.Nat.{div_below}
 use Rattle.terms.specs.Cores.{number_of}
 use Rattle.terms.specs.declared.cores.Core.{Core}
@@ -10,10 +10,10 @@ use Rattle.arbiter.specs.Questions.{NoMore, count}
 use Rattle.arbiter.specs.declared.question.Question.{Question}
 use Rattle.tables.specs.Ranges.{execution_on, requests_on, no_partition}
 use Rattle.tables.specs.declared.model.Task.{Task}
-use Rattle.analysis.specs.Placed.{core_at, is_core, sharing_of}
-use Rattle.analysis.specs.Demand.{State, task, place, on, beside, ahead, own, busy, others, question, demand, limit, jobs, own_jobs, other_jobs}
+use Rattle.analysis.specs.Placed.{core_at, is_core}
+use Rattle.analysis.specs.Demand.{State, task, place, on, beside, ahead, busy, others, question, demand, limit, jobs, own_jobs, other_jobs}
 use Rattle.analysis.specs.Easing.{Eased}
-use Rattle.analysis.specs.Times.{IsTime, InTime, InTimePlaced, AllInTime, demand_on}
+use Rattle.analysis.specs.Times.{InTime, InTimePlaced, demand_on}
 use Rattle.analysis.proofs.Rise.{Rises, demand_rises}
 use Rattle.analysis.proofs.Settling.{settles}
 

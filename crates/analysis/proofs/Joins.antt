@@ -1,10 +1,9 @@
 -- Links, one more at a time. Assumes nothing.
-use Rattle.std.proofs.Common.{◌≡◌, ℕ, ◌+◌, ◌<◌, Bool, true, false, ◌||◌, List, [], ◌∷◌, ◌++◌, length, get_or, take, Some, None, Option, sym, refl, ap, ◌∙◌}
+use Rattle.std.proofs.Common.{◌≡◌, ℕ, ◌+◌, ◌<◌, Bool, true, false, ◌||◌, List, [], ◌∷◌, ◌++◌, length, get_or, take, Some, None, Option, refl, ap, ◌∙◌}
 use Rattle.std.proofs.lemmas.List.{take_more}
 use Rattle.terms.specs.Cores.{number_of}
 use Rattle.terms.specs.declared.cores.Core.{Core}
 use Rattle.arbiter.specs.Questions.{joined, pair}
-use Rattle.arbiter.specs.declared.question.Sharing.{Sharing}
 use Rattle.tables.specs.declared.model.Link.{Link}
 use Rattle.analysis.specs.Placed.{core_at, across, joins, any, sharing_of}
 

@@ -1,5 +1,5 @@
 -- The demand of a task rises with the time, under a bound that rises. Assumes nothing.
-use Rattle.std.proofs.Common.{◌≡◌, ℕ, zero, suc, ◌+◌, ◌*◌, ◌<◌, ◌≤◌, Bool, true, false, cond, eqb, length, refl, mul-le-mul_right, arith}
+use Rattle.std.proofs.Common.{ℕ, zero, suc, ◌*◌, ◌<◌, ◌≤◌, true, false, cond, eqb, length, refl, mul-le-mul_right, arith}
 use Rattle.terms.specs.Cores.{number_of}
 use Rattle.terms.specs.declared.cores.Core.{Core}
 use Rattle.terms.proofs.Sums.{sum_mono}
@@ -7,7 +7,7 @@ use Rattle.arbiter.specs.Questions.{NoMore, count}
 use Rattle.arbiter.specs.declared.question.Question.{Question}
 use Rattle.tables.specs.Ranges.{execution_on, requests_on}
 use Rattle.tables.specs.declared.model.Task.{Task}
-use Rattle.analysis.specs.Demand.{State, task, on, beside, ahead, own, busy, others, question, demand, own_jobs, other_jobs}
+use Rattle.analysis.specs.Demand.{State, task, on, beside, ahead, busy, others, question, demand, own_jobs, other_jobs}
 use Rattle.analysis.proofs.Counts.{jobs_rise}
 
 -- a bound that rises

@@ -1,5 +1,5 @@
 -- A function that rises has a least fixed point below each t that it does not pass. Assumes nothing.
-use Rattle.std.proofs.Common.{◌≡◌, ℕ, zero, suc, ◌+◌, ◌-◌, ◌<◌, ◌≤◌, ◌⊎◌, refl, inl, inr, arith}
+use Rattle.std.proofs.Common.{ℕ, zero, suc, ◌+◌, ◌≤◌, refl, inl, inr, arith}
 use Rattle.std.proofs.lemmas.Bool.{cases_eq}
 use Rattle.analysis.specs.Times.{IsTime}
 use Rattle.analysis.proofs.Least.{Under, under_step, under_found}

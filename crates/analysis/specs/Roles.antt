@@ -5,7 +5,7 @@ use Rattle.terms.specs.Sums.{sum_where}
 use Rattle.terms.specs.declared.cores.Core.{Core}
 use Rattle.tables.specs.Ranges.{no_task, requests_on}
 use Rattle.tables.specs.declared.model.Task.{Task}
-use Rattle.analysis.specs.Demand.{State, task, place, beside, own_jobs, other_jobs}
+use Rattle.analysis.specs.Demand.{State, place, beside, own_jobs, other_jobs}
 use Rattle.analysis.specs.declared.role.Role.{Role}
 use Rattle.analysis.specs.declared.role.Role.TheVariants.{Aside, Ahead, Other}
 

@@ -1,5 +1,5 @@
 -- How large the waits between banks are at most. Assumes nothing.
-use Rattle.std.proofs.Common.{◌≡◌, ℕ, ◌+◌, ◌-◌, ◌*◌, ◌^◌, ◌<◌, ◌≤◌, Bool, true, false, mul-le-mul, arith}
+use Rattle.std.proofs.Common.{◌≡◌, ℕ, ◌+◌, ◌-◌, ◌*◌, ◌^◌, ◌<◌, ◌≤◌, false, mul-le-mul, arith}
 use Rattle.std.proofs.lemmas.Nat.{div_below}
 use Rattle.arbiter.specs.Banks.{inter, between}
 use Rattle.terms.specs.Sums.{sum_where}

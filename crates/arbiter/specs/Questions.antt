@@ -1,5 +1,5 @@
 -- What a question says. Assumes nothing.
-use Rattle.std.specs.Prelude.{◌≡◌, ℕ, ◌^◌, ◌<◌, ◌≤◌, Bool, true, false, not, ◌&&◌, ◌||◌, ◌==◌, nat_lt, slice_index_or}
+use Rattle.std.specs.Prelude.{◌≡◌, ℕ, ◌^◌, ◌<◌, ◌≤◌, Bool, not, ◌&&◌, ◌||◌, ◌==◌, nat_lt, slice_index_or}
 use Rattle.arbiter.specs.declared.question.Question.{Question}
 use Rattle.arbiter.specs.declared.question.Sharing.{Sharing}
 

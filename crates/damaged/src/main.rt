@@ -1,10 +1,7 @@
-//! Reads a table file cut after each byte, and with each single bit turned, and prints what becomes of every one, where
-//! neighbours with the same answer share a line; then the files of a table of faults.
+//! Reads a table file cut after each byte, and with each single bit turned, and prints what becomes of every one.
+//! Neighbours with the same answer share a line.
 #![tactic(auto)]
 
-mod faults;
-
-use faults::faulty_files;
 use std::alloc::{AllocError, Global};
 use std::fs;
 use tables::held::Tables;
@@ -92,8 +89,7 @@ fn turned_files(rt: &HostRuntime, file: &mut [u8]) -> anyhow::Result<()> {
 fn read_all(rt: &HostRuntime) -> anyhow::Result<()> {
     let mut file = fs::read(rt, "station.tab")?;
     cut_files(rt, file.as_slice())?;
-    turned_files(rt, file.as_mut_slice())?;
-    faulty_files(rt)
+    turned_files(rt, file.as_mut_slice())
 }
 
 fn main(rt: HostRuntime) -> anyhow::Result<()> {

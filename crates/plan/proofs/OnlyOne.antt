@@ -1,11 +1,9 @@
 -- The file, the bound and the changes determine every state and every answer. Assumes nothing.
-use Rattle.std.proofs.Common.{◌≡◌, ℕ, ◌<◌, ◌⊎◌, List, [], ◌∷◌, ◌++◌, length, Some, None, Ok, Err, Option, Result, sym, refl, ap, ◌∙◌, subst, inl, inr, arith}
+use Rattle.std.proofs.Common.{◌≡◌, ℕ, List, [], ◌∷◌, ◌++◌, Some, None, Ok, Err, Option, Result, sym, refl, ap, ◌∙◌, subst, inl, inr}
 use Rattle.std.proofs.lemmas.Bool.{cases_order}
-use Rattle.terms.specs.Refusals.{told}
 use Rattle.terms.specs.declared.cores.Core.{Core}
 use Rattle.terms.specs.declared.refusal.Refusal.{Refusal}
 use Rattle.arbiter.specs.declared.question.Question.{Question}
-use Rattle.tables.specs.Contents.{Book}
 use Rattle.tables.specs.Layout.{Tabled, tables_of}
 use Rattle.analysis.specs.Demand.{State, place, limit}
 use Rattle.analysis.specs.Times.{FirstLate, InTime, LateAt, InTimePlaced, LatePlaced, demand_on}

@@ -1,5 +1,5 @@
 -- What a call answers, from what it asks for. Assumes nothing.
-use Rattle.std.proofs.Common.{◌≡◌, ℕ, Ok, Err, Result, sym, refl, ◌∙◌, subst}
+use Rattle.std.proofs.Common.{◌≡◌, ℕ, Ok, Err, Result, sym, refl, subst}
 use Rattle.terms.specs.Refusals.{told}
 use Rattle.terms.specs.declared.refusal.Refusal.{Refusal}
 use Rattle.arbiter.specs.declared.question.Question.{Question}

@@ -1,5 +1,5 @@
 -- Other numbers for a task, and the former ones again. Assumes nothing.
-use Rattle.std.proofs.Common.{◌≡◌, ℕ, ◌<◌, ◌≤◌, ltb, List, length, get_or, set, Some, None, Ok, Err, Option, sym, refl, ap, ◌∙◌, subst, arith, length-set}
+use Rattle.std.proofs.Common.{◌≡◌, ℕ, ◌<◌, ltb, List, length, get_or, set, Some, None, Ok, Err, Option, refl, ap, ◌∙◌, subst, arith, length-set}
 use Rattle.std.proofs.lemmas.List.{get_or-set_same, set-set, set-get_or}
 use Rattle.std.proofs.lemmas.Bool.{lt-ltb, cond-true}
 use Rattle.terms.specs.Checks.{first_out}
@@ -15,7 +15,7 @@ use Rattle.tables.specs.declared.timing.Timing.{Timing}
 use Rattle.analysis.specs.Demand.{State}
 use Rattle.analysis.specs.Times.{FirstLate}
 use Rattle.plan.specs.Born.{tables_in}
-use Rattle.plan.specs.Calls.{Call, Asked, with_numbers, retime_asks, ranged}
+use Rattle.plan.specs.Calls.{Call, with_numbers, retime_asks, ranged}
 use Rattle.plan.proofs.Outcomes.{examined}
 
 -- the state of tables and placements

@@ -6,7 +6,7 @@ use Rattle.terms.specs.declared.refusal.Refusal.{Refusal}
 use Rattle.arbiter.specs.declared.question.Question.{Question}
 use Rattle.tables.specs.Ranges.{no_time}
 use Rattle.analysis.specs.Demand.{State, task, place, limit}
-use Rattle.analysis.specs.Times.{InTime, InTimePlaced, TellsPlaced, AllInTime, Shows, TimeIs, IsTime, demand_on}
+use Rattle.analysis.specs.Times.{InTimePlaced, TellsPlaced, AllInTime, Shows, IsTime, demand_on}
 use Rattle.plan.specs.Born.{Born}
 use Rattle.plan.specs.Calls.{Asked, Call}
 use Rattle.plan.specs.History.{asks, Runs, done, next, History}

@@ -12,7 +12,7 @@ use Rattle.analysis.specs.Demand.{State}
 use Rattle.analysis.specs.Placed.{core_at}
 use Rattle.analysis.specs.Times.{FirstLate, Times}
 use Rattle.plan.specs.Born.{tables_in}
-use Rattle.plan.specs.Calls.{Asked, Call, place_asks, replaced}
+use Rattle.plan.specs.Calls.{Asked, place_asks, replaced}
 use Rattle.plan.specs.Trial.{after_checks, trial_refusal, Tried}
 use Rattle.plan.proofs.Outcomes.{examined}
 use Rattle.plan.proofs.Retimings.{over}

@@ -1,11 +1,7 @@
 -- What an allocation says. Assumes nothing.
-use Rattle.std.specs.Prelude.{◌≡◌, ℕ, ◌-◌, Bool, ◌||◌, List, ◌++◌, map, length, replicate, Some, None, Option, ◌==◌, nat_lt}
+use Rattle.std.specs.Prelude.{ℕ, ◌-◌, Bool, ◌||◌, List, ◌++◌, map, length, replicate, None, Option, ◌==◌, nat_lt}
 use Rattle.terms.specs.Cores.{numbered}
-use Rattle.terms.specs.Refusals.{told}
 use Rattle.terms.specs.declared.cores.Core.{Core}
-use Rattle.terms.specs.declared.refusal.Refusal.{Refusal}
-use Rattle.terms.specs.Checks.{first_out}
-use Rattle.tables.specs.declared.model.Partition.{Partition}
 
 -- an entry is the number of a core of the computer, or 255 for none
 abbrev pub names_core : ℕ → ℕ → Bool

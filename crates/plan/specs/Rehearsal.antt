@@ -1,5 +1,5 @@
 -- What holds after any history of the four calls. Assumes nothing.
-use Rattle.std.specs.Prelude.{◌≡◌, ℕ, ◌<◌, ◌≤◌, List, [], ◌∷◌, ◌++◌, length, get_or, take, Some, None, Ok, Err, Option, Result, slice_index_or}
+use Rattle.std.specs.Prelude.{◌≡◌, ℕ, ◌<◌, ◌≤◌, List, [], length, get_or, take, Some, None, Ok, Err, Option, Result, slice_index_or}
 use Rattle.terms.specs.Refusals.{told}
 use Rattle.terms.specs.declared.cores.Core.{Core}
 use Rattle.terms.specs.declared.numbers.Picos.{Picos}

@@ -42,20 +42,28 @@ fn retimings(rt: HostRuntime) -> Result<(), Fail> {
     };
     assert_eq!(rt; task, 9);
     assert_eq!(rt; (numbers.period.get(), numbers.deadline.get()), (1, 2));
+    assert_eq!(rt; numbers.execution[0].get(), 3);
+    assert_eq!(rt; numbers.execution[3].get(), 6);
+    assert_eq!(rt; numbers.requests[0].get(), 7);
+    assert_eq!(rt; numbers.requests[3].get(), 10);
+    assert!(rt; !reads(b"retime 9 1 2 3 4 5 6 7 8 9", heap)?);
+    assert!(rt; !reads(b"retime 9 1 2 3 4 5 6 7 8 9 10 11", heap)?);
+    Ok(())
+}
+
+#[test]
+fn retimings_number_by_number(rt: HostRuntime) -> Result<(), Fail> {
+    let heap = rt.alloc();
+    let Some(Change::Retime { numbers, .. }) = change(b"retime 9 1 2 3 4 5 6 7 8 9 10", heap)?
+    else {
+        return Err(Fail::new("retime"));
+    };
     for (k, time) in numbers.execution.iter().enumerate() {
         assert_eq!(rt; time.get(), 3 + k as u64);
     }
     for (k, count) in numbers.requests.iter().enumerate() {
         assert_eq!(rt; count.get(), 7 + k as u64);
     }
-    Ok(())
-}
-
-#[test]
-fn too_few_and_too_many(rt: HostRuntime) -> Result<(), Fail> {
-    let heap = rt.alloc();
-    assert!(rt; !reads(b"retime 9 1 2 3 4 5 6 7 8 9", heap)?);
-    assert!(rt; !reads(b"retime 9 1 2 3 4 5 6 7 8 9 10 11", heap)?);
     Ok(())
 }
 

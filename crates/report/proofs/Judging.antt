@@ -1,7 +1,6 @@
 -- The listing of a plan and the text of check, from what the calls on a plan ensure. Assumes nothing.
-use Rattle.std.proofs.Common.{◌≡◌, ℕ, ◌<◌, ◌≤◌, List, length, get_or, IfOk, Some, None, Ok, Err, Option, Result, sym, ap, ◌∙◌, subst, inr, arith}
+use Rattle.std.proofs.Common.{◌≡◌, ℕ, ◌<◌, ◌≤◌, List, length, get_or, IfOk, Some, None, Ok, Err, Option, Result, sym, ap, ◌∙◌, subst, arith}
 use Rattle.std.proofs.lemmas.List.{get_or-take, length-take-le}
-use Rattle.terms.specs.Refusals.{told}
 use Rattle.terms.specs.declared.numbers.Picos.{Picos}
 use Rattle.terms.specs.declared.refusal.Refusal.{Refusal}
 use Rattle.arbiter.specs.Settings.{Made}
@@ -12,12 +11,11 @@ use Rattle.arbiter.specs.declared.question.Question.{Question}
 use Rattle.arbiter.specs.declared.request_driven.RequestDriven.{RequestDriven}
 use Rattle.tables.specs.Contents.{Book, decode}
 use Rattle.tables.specs.Ranges.{no_time}
-use Rattle.tables.specs.Reading.{Refused}
 use Rattle.analysis.specs.Demand.{State}
 use Rattle.analysis.specs.Times.{Shows, Filled}
 use Rattle.plan.specs.Born.{Born}
 use Rattle.plan.specs.Calls.{Call, adopt_asks}
-use Rattle.report.specs.Checked.{Answered, Checked, CheckedBy, Judged, Judgement, Listed, Told, pile_bound}
+use Rattle.report.specs.Checked.{Checked, CheckedBy, Judged, Listed, Told, pile_bound}
 use Rattle.report.specs.Listed.{listed}
 use Rattle.report.specs.Text.{Written, listing, refusal_text}
 use Rattle.report.specs.declared.times.Times.{Times}

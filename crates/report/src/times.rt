@@ -18,6 +18,7 @@ impl Times {
     pub fn new(entries: [Picos; 64], count: usize) -> Times
         ensures entries { result.entries ≡ entries }
         ensures count { result.count ≡ min count 64 }
+        ensures given { count ≤ 64 → result.count ≡ count }
     {
         let count = if count < 64 { count } else { 64 };
         Times { entries, count }
@@ -33,7 +34,8 @@ impl Times {
     /// The time with this number, from 0.
     pub fn at(&self, k: usize) -> Picos
         requires { k < self.now.count }
-        ensures { result ≡ slice_index_or self.now.entries k no_time }
+        ensures is { result ≡ slice_index_or self.now.entries k result }
+        ensures entry { result ≡ slice_index_or self.now.entries k no_time }
     {
         self.entries[k]
     }

@@ -1,21 +1,18 @@
 -- What the reader's calls say of `decode`, where one follows another. Assumes nothing.
-use Rattle.std.proofs.Common.{◌≡◌, ℕ, ◌+◌, ◌<◌, ◌≤◌, List, [], map, length, get_or, Some, None, Ok, Err, Result, sym, refl, ap, ◌∙◌, subst, arith}
+use Rattle.std.proofs.Common.{◌≡◌, ℕ, ◌<◌, List, [], length, get_or, Ok, Err, Result, sym, ap, ◌∙◌, subst, arith}
 use Rattle.std.proofs.lemmas.List.{length-map}
 use Rattle.std.proofs.ByRecursion.{All-get_or, All-map}
-use Rattle.std.proofs.lemmas.Bool.{ltb-false}
 use Rattle.std.specs.Int.Digits.{AllBelowBase}
 use Rattle.std.specs.List.{AllByRecursion as All}
 use Rattle.terms.specs.declared.refusal.Refusal.{Refusal}
-use Rattle.terms.specs.Refusals.{told}
 use Rattle.tables.specs.declared.model.Partition.{Partition}
 use Rattle.tables.specs.declared.model.Task.{Task}
 use Rattle.tables.specs.declared.model.Link.{Link}
 use Rattle.tables.specs.declared.header.Header.{Header}
 use Rattle.tables.specs.Kinds.{Kind, rows_from, and_then, unless}
 use Rattle.tables.specs.RowKinds.{partition_kind, task_kind, link_kind}
-use Rattle.tables.specs.Ranges.{EachTimed, EachMember, EachDue, EachJob, Period, no_partition, no_task}
-use Rattle.tables.specs.Contents.{Book, decode, decode_after, header_of, head_at, header_fault, end_fault}
-use Rattle.tables.specs.Layout.{Tabled}
+use Rattle.tables.specs.Ranges.{EachTimed, EachMember, Period, no_partition, no_task}
+use Rattle.tables.specs.Contents.{Book, decode, decode_after, header_of, head_at, end_fault}
 use Rattle.tables.specs.Answers.{Headed, HeadBad, Held, RefusedRows, Ended, Unended}
 use Rattle.tables.specs.Reading.{Accepted, Refused}
 use Rattle.tables.proofs.InRange.{TaskKept, Counts, counts}

@@ -1,5 +1,5 @@
 -- The layout of tables and names in range is accepted, and gives them back. Assumes nothing.
-use Rattle.std.proofs.Common.{◌≡◌, ℕ, suc, ◌+◌, ◌<◌, ◌≤◌, Bool, true, false, not, ◌||◌, List, [], ◌∷◌, ◌++◌, map, length, get_or, take, None, Ok, sym, refl, ap, ◌∙◌, subst, append_assoc, append-nil, arith, length-append}
+use Rattle.std.proofs.Common.{◌≡◌, ℕ, suc, ◌+◌, ◌≤◌, true, List, [], ◌∷◌, ◌++◌, map, length, get_or, None, Ok, sym, refl, ap, ◌∙◌, append_assoc, append-nil, arith, length-append}
 use Rattle.std.specs.List.{flat_map, AllByRecursion as All}
 use Rattle.std.proofs.lemmas.List.{length-map}
 use Rattle.std.proofs.lemmas.Bool.{le-leb, le-ltb, eq-eqb, and_from, or_from, not_from_true}
@@ -9,13 +9,12 @@ use Rattle.tables.specs.declared.model.Task.{Task}
 use Rattle.tables.specs.declared.model.Link.{Link}
 use Rattle.tables.specs.declared.header.Header.{Header}
 use Rattle.tables.specs.Packed.{bits_at, pack, octets}
-use Rattle.tables.specs.Kinds.{rows_from, row_bytes, and_then, unless, when}
+use Rattle.tables.specs.Kinds.{rows_from, row_bytes, unless, when}
 use Rattle.tables.specs.RowKinds.{partition_kind, task_kind, link_kind}
-use Rattle.tables.specs.Ranges.{Period}
 use Rattle.tables.specs.Contents.{Book, decode, decode_after, header_of, header_in_range, header_fault, head_at, end_fault}
-use Rattle.tables.specs.Layout.{Tabled, Named, InRange, TaskFits, LinkFits, NameFits, layout, tables_of, names_of, paired, header_widths, Rising}
+use Rattle.tables.specs.Layout.{Tabled, Named, InRange, LinkFits, layout, paired, header_widths, Rising}
 use Rattle.tables.specs.Reading.{GivenBack}
-use Rattle.tables.proofs.Unpacking.{Fit, fields, field_at, octets_long}
+use Rattle.tables.proofs.Unpacking.{Fit, fields, field_at}
 use Rattle.tables.proofs.Reread.{Back, reread}
 use Rattle.tables.proofs.RowsBack.{paired_all, partition_back, task_back, link_back, partitions_clear, tasks_clear, links_clear, Follow}
 use Rattle.tables.proofs.Decoding.{then_ok}

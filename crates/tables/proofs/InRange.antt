@@ -1,5 +1,5 @@
 -- What is in range in a sound row. Assumes nothing.
-use Rattle.std.proofs.Common.{◌≡◌, ℕ, zero, suc, ◌^◌, ◌<◌, ◌≤◌, Bool, true, false, not, ◌&&◌, leb, List, [], ◌∷◌, get_or, Some, None, Option, refl, arith}
+use Rattle.std.proofs.Common.{◌≡◌, ℕ, zero, suc, ◌^◌, ◌<◌, ◌≤◌, Bool, true, not, ◌&&◌, leb, List, [], ◌∷◌, get_or, None, Option, arith}
 use Rattle.std.proofs.lemmas.Bool.{leb-true, leb-false, and_parts, not-false}
 use Rattle.terms.specs.declared.numbers.Picos.{Picos}
 use Rattle.terms.specs.declared.numbers.Requests.{Requests}

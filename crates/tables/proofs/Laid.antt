@@ -1,5 +1,5 @@
 -- An accepted file is the layout of its tables and names. Assumes nothing.
-use Rattle.std.proofs.Common.{◌≡◌, ℕ, ◌+◌, ◌-◌, ◌*◌, ◌/◌, ◌%◌, ◌^◌, ◌<◌, ◌≤◌, true, not, eqb, List, [], ◌∷◌, ◌++◌, map, length, take, drop, None, Ok, sym, refl, ap, ◌∙◌, subst, append_assoc, append-nil, arith, length-take}
+use Rattle.std.proofs.Common.{◌≡◌, ℕ, ◌+◌, ◌-◌, ◌*◌, ◌/◌, ◌%◌, ◌^◌, ◌<◌, ◌≤◌, true, List, [], ◌∷◌, ◌++◌, map, length, take, None, Ok, sym, refl, ap, ◌∙◌, subst, append_assoc, append-nil, arith, length-take}
 use Rattle.std.specs.List.{flat_map, AllByRecursion as All}
 use Rattle.std.specs.Int.Digits.{AllBelowBase, number_from_digits}
 use Rattle.std.proofs.lemmas.List.{take_all, length-map}
@@ -13,7 +13,7 @@ use Rattle.tables.specs.Packed.{bits_at, pack, unpack, octets, bits}
 use Rattle.tables.specs.Kinds.{rows_from, row_bytes}
 use Rattle.tables.specs.RowKinds.{partition_kind, task_kind, link_kind, partition_widths, task_widths, link_widths}
 use Rattle.tables.specs.Ranges.{Period}
-use Rattle.tables.specs.Contents.{Book, decode, decode_after, header_of, header_in_range, header_fault, head_at, end_fault}
+use Rattle.tables.specs.Contents.{Book, decode_after, header_of, header_in_range, header_fault, head_at}
 use Rattle.tables.specs.Layout.{layout, tables_of, names_of, paired, header_widths}
 use Rattle.tables.specs.Reading.{LaidOut, OneFile}
 use Rattle.tables.proofs.Packing.{field_is, whole_row}

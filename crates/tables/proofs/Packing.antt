@@ -1,7 +1,6 @@
 -- Laws of packed fields. Assumes nothing.
 use Rattle.std.proofs.Common.{◌≡◌, ℕ, zero, suc, ◌+◌, ◌-◌, ◌*◌, ◌/◌, ◌%◌, ◌^◌, ◌<◌, ◌≤◌, List, [], ◌∷◌, ◌++◌, length, take, drop, replicate, sym, refl, ap, ◌∙◌, subst, mod-eq_of_lt, mul_assoc, add-mul, add_comm, zero-mul, arith, length-drop, take-append-drop, length-take}
 use native.Mathlib.Nat.{pow-zero, pow-succ', mod-one, add-mul-div_right, add-mul-mod_self_right}
-use lib.ListN.{length-replicate}
 use Rattle.std.specs.Int.Digits.{number_from_digits, number_from_digits_after, AllBelowBase}
 use Rattle.std.proofs.lemmas.Int.Digits.{number_after_append, number_lt}
 use Rattle.std.proofs.lemmas.Nat.{pow-add, pow_pos, shr-shr, shr_high, mod-pow-add}

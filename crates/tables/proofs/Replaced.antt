@@ -1,5 +1,5 @@
 -- One task of a list replaced. Assumes nothing.
-use Rattle.std.proofs.Common.{◌≡◌, ℕ, zero, suc, ◌<◌, List, [], ◌∷◌, length, get_or, set, sym, refl, subst, arith}
+use Rattle.std.proofs.Common.{ℕ, zero, suc, ◌<◌, List, [], ◌∷◌, length, get_or, set, arith}
 
 -- what holds of each item holds after one is replaced by another of which it holds
 pub each_set : {X : Type 0} (P : X → Type 0) (d : X) (xs : List X) (i : ℕ) (x : X) → P x → ((k : ℕ) → k < length xs → P (get_or xs k d)) → (k : ℕ) → k < length (set xs i x) → P (get_or (set xs i x) k d)

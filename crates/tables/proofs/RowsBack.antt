@@ -1,5 +1,5 @@
 -- Rows in range can be read back, and have no fault. Assumes nothing.
-use Rattle.std.proofs.Common.{◌≡◌, ℕ, zero, suc, ◌+◌, ◌-◌, ◌*◌, ◌^◌, ◌<◌, ◌≤◌, Bool, true, false, cond, not, ◌&&◌, ◌||◌, eqb, leb, List, [], ◌∷◌, ◌++◌, map, length, get_or, Some, None, sym, refl, ap, ◌∙◌, subst, append_assoc, arith}
+use Rattle.std.proofs.Common.{◌≡◌, ℕ, ◌+◌, ◌-◌, ◌<◌, ◌≤◌, Bool, true, cond, not, eqb, List, [], ◌∷◌, ◌++◌, map, length, get_or, None, sym, refl, ap, ◌∙◌, subst, append_assoc, arith}
 use Rattle.std.specs.List.{AllByRecursion as All}
 use Rattle.std.proofs.lemmas.List.{map_push, length_push, get_or_push}
 use Rattle.std.proofs.lemmas.Bool.{le-leb, lt-leb, lt-ltb, eq-eqb, and_from, or_from, or_right, not_from_true}
@@ -9,10 +9,10 @@ use Rattle.terms.specs.declared.refusal.Refusal.TheVariants.{FieldRange, RowPart
 use Rattle.tables.specs.declared.model.Partition.{Partition}
 use Rattle.tables.specs.declared.model.Task.{Task}
 use Rattle.tables.specs.declared.model.Link.{Link}
-use Rattle.tables.specs.Kinds.{when, within}
+use Rattle.tables.specs.Kinds.{when}
 use Rattle.tables.specs.RowKinds.{partition_kind, task_kind, link_kind, partition_widths, task_widths, link_widths, task_in_range, task_fields, count_in, comes_before, rises, no_link, as_picos, as_requests}
 use Rattle.tables.specs.Ranges.{Period}
-use Rattle.tables.specs.Layout.{paired, TaskFits, LinkFits, NameFits, Rising, RisingAfter}
+use Rattle.tables.specs.Layout.{paired, TaskFits, LinkFits, NameFits, RisingAfter}
 use Rattle.tables.proofs.InRange.{range_kept}
 use Rattle.tables.proofs.Unpacking.{Fit, fields, field_at}
 use Rattle.tables.proofs.Reread.{Back, Clear}

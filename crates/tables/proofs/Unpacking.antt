@@ -1,10 +1,10 @@
 -- Fields that were packed are read back. Assumes nothing.
-use Rattle.std.proofs.Common.{◌≡◌, ℕ, zero, suc, ◌+◌, ◌-◌, ◌*◌, ◌/◌, ◌%◌, ◌^◌, ◌<◌, ◌≤◌, List, [], ◌∷◌, ◌++◌, length, replicate, sym, refl, ap, ◌∙◌, subst, mod-eq_of_lt, mul_comm, arith}
+use Rattle.std.proofs.Common.{◌≡◌, ℕ, zero, suc, ◌+◌, ◌-◌, ◌*◌, ◌/◌, ◌%◌, ◌^◌, ◌<◌, ◌≤◌, List, [], ◌∷◌, length, replicate, sym, refl, ap, ◌∙◌, subst, mod-eq_of_lt, mul_comm, arith}
 use native.Mathlib.Nat.{mod-one}
 use Rattle.std.specs.Int.Digits.{number_from_digits, AllBelowBase}
-use Rattle.std.proofs.lemmas.Nat.{pow-add, pow_pos, shr_high, mod-pow-add, mul-add-lt, mod_below}
+use Rattle.std.proofs.lemmas.Nat.{pow-add, shr_high, mod-pow-add, mul-add-lt, mod_below}
 use Rattle.tables.specs.Packed.{bits_at, bits, unpack, pack, octets}
-use Rattle.tables.proofs.Packing.{number_cons, octet, bits_octets, pack_unpack, unpack_high, field_is}
+use Rattle.tables.proofs.Packing.{number_cons, octet, bits_octets, unpack_high, field_is}
 
 -- values that fit fields of these widths
 abbrev pub Fit : List ℕ → List ℕ → Type 0

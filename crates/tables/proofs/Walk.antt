@@ -1,9 +1,8 @@
 -- A run of rows, step by step. Assumes nothing.
-use Rattle.std.proofs.Common.{◌≡◌, ℕ, suc, ◌+◌, ◌-◌, ◌<◌, ◌≤◌, Bool, true, false, cond, not, ltb, List, [], ◌∷◌, ◌++◌, map, length, take, drop, Some, None, Ok, Err, Option, Result, sym, refl, ap, ◌∙◌, subst, arith, length-drop, length-take, MatchResult}
+use Rattle.std.proofs.Common.{◌≡◌, ℕ, suc, ◌+◌, ◌-◌, ◌<◌, ◌≤◌, Bool, true, false, List, [], ◌∷◌, ◌++◌, map, length, Some, None, Err, Option, Result, sym, refl, ap, ◌∙◌, subst, arith, length-drop, length-take, MatchResult}
 use Rattle.std.proofs.lemmas.List.{map_push}
 use Rattle.std.proofs.lemmas.Bool.{ltb-false, not-false}
 use Rattle.terms.specs.declared.refusal.Refusal.{Refusal}
-use Rattle.terms.specs.Refusals.{told}
 use Rattle.tables.specs.declared.file_row.FileRow.{FileRow}
 use Rattle.tables.specs.Kinds.{Kind, row_fault, fixed_at, name_at, end_at, rows_from, or_else, unless, when}
 use Rattle.tables.specs.Handed.{fixed_of}

@@ -1,5 +1,5 @@
 -- What a table file says. Assumes nothing.
-use Rattle.std.specs.Prelude.{ℕ, ◌+◌, Bool, not, ◌&&◌, ◌||◌, List, [], length, Some, None, Ok, Err, Option, Result, ◌==◌, nat_le, nat_lt}
+use Rattle.std.specs.Prelude.{ℕ, ◌+◌, Bool, not, ◌&&◌, ◌||◌, List, [], length, None, Ok, Option, Result, ◌==◌, nat_le, nat_lt}
 use Rattle.terms.specs.declared.refusal.Refusal.{Refusal}
 use Rattle.terms.specs.declared.refusal.Refusal.TheVariants.{Incomplete, FieldRange, BytesAfterEnd}
 use Rattle.tables.specs.declared.model.Partition.{Partition}

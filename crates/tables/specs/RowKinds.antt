@@ -1,5 +1,5 @@
 -- The three kinds of row. Assumes nothing.
-use Rattle.std.specs.Prelude.{ℕ, ◌+◌, ◌-◌, ◌^◌, Bool, true, cond, not, ◌&&◌, ◌||◌, List, [], ◌∷◌, ◌++◌, map, length, Some, None, ◌==◌, nat_le, nat_lt, slice_index_or}
+use Rattle.std.specs.Prelude.{ℕ, ◌+◌, ◌-◌, Bool, true, cond, not, ◌&&◌, ◌||◌, List, [], ◌∷◌, ◌++◌, map, length, None, ◌==◌, nat_le, nat_lt, slice_index_or}
 use Rattle.terms.specs.declared.numbers.Picos.{Picos}
 use Rattle.terms.specs.declared.numbers.Requests.{Requests}
 use Rattle.terms.specs.declared.refusal.Refusal.TheVariants.{FieldRange, RowPartition, LinkOrder, PartitionFull}

@@ -2,7 +2,7 @@ use Rattle.std.proofs.Common.{◌≡◌, ◌<◌, length, Some, sym, ap, ◌∙�
 use Rattle.terms.specs.Cores.{number_of}
 use Rattle.tables.specs.Ranges.{execution_on, requests_on}
 use Rattle.tables.specs.declared.model.Task.{Task}
-use Rattle.analysis.specs.Demand.{State, state, task, place}
+use Rattle.analysis.specs.Demand.{State, state, place}
 use Rattle.analysis.specs.Placed.{core_at}
 use Rattle.analysis.proofs.Roles.{same_demand}
 use Rattle.analysis.proofs.demand.examine.Goals as goal

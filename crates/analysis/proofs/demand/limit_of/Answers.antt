@@ -1,5 +1,5 @@
-use Rattle.std.proofs.Common.{◌≡◌, ℕ, min, List, get_or, vec_items, sym, refl, ap, ◌∙◌, arith}
-use Rattle.tables.specs.Ranges.{no_partition, no_task}
+use Rattle.std.proofs.Common.{min, List, get_or, vec_items, ap, ◌∙◌, arith}
+use Rattle.tables.specs.Ranges.{no_partition}
 use Rattle.tables.specs.declared.model.Partition.{Partition}
 use Rattle.tables.specs.declared.model.Task.{Task}
 use Rattle.analysis.proofs.demand.limit_of.Goals as goal

@@ -1,4 +1,4 @@
-use Rattle.std.proofs.Common.{◌≡◌, ℕ, ◌⊎◌, length, sym, refl, ap, ◌∙◌, subst, inl, inr, arith}
+use Rattle.std.proofs.Common.{◌≡◌, ℕ, length, sym, ap, ◌∙◌, subst, inl, arith}
 use Rattle.tables.specs.declared.model.Task.{Task}
 use Rattle.analysis.specs.Demand.{State, state}
 use Rattle.analysis.specs.Windows.{Largest}

@@ -1,4 +1,4 @@
-use Rattle.std.proofs.Common.{◌≡◌, get_or, set, sym, ap, ◌∙◌, take_all}
+use Rattle.std.proofs.Common.{get_or, set, ap, ◌∙◌, take_all}
 use Rattle.terms.specs.Cores.{numbered}
 use Rattle.plan.specs.Adoption.{laid}
 use Rattle.plan.proofs.Allocations.{laid_more}

@@ -1,7 +1,7 @@
-use Rattle.std.proofs.Common.{◌≡◌, ℕ, ◌+◌, ◌<◌, ◌≤◌, length, take, sym, refl, subst, arith, take_all}
+use Rattle.std.proofs.Common.{◌≤◌, length, refl, subst, arith, take_all}
 use Rattle.plan.specs.Born.{state_of}
 use Rattle.plan.specs.History.{History, done}
-use Rattle.plan.proofs.Rehearsals.{Upto, upto_more}
+use Rattle.plan.proofs.Rehearsals.{upto_more}
 use Rattle.plan.proofs.rehearsal.rehearse.Goals as goal
 
 pub loop-k-init : goal.loop-k-init

@@ -6,7 +6,7 @@ pub loop-k-preserved : goal.loop-k-preserved
 loop-k-preserved c =
     let x = c.args.times.now in
     let below : c.loop-k.k < x.count = omega (arith, c.count-k-end.ensures) in
-    let row = length_row x c.loop-k.k c.at.result c.get.result below c.at.ensures c.get.ensures in
+    let row = length_row x c.loop-k.k c.at.result c.get.result below c.at.ensures.entry c.get.ensures in
     let more = c.line_length-needed.ensures in (
       omega (arith, c.loop-k.invariant.0, more.is),
       omega (arith, c.loop-k.invariant.1, more.few),

@@ -11,7 +11,7 @@ slice_bounds-put_line-count c =
     let k = c.loop-k.k in
     let below : k < x.count = omega (arith, c.count-k-end.ensures) in
     let text = lines 0 (take k (listed x)) in
-    let room = row_room x k c.at.result c.get.result below c.at.ensures c.get.ensures c.args.out.now c.requires in
+    let room = row_room x k c.at.result c.get.result below c.at.ensures.entry c.get.ensures c.args.out.now c.requires in
     put_within text c.args.out.now c.loop-k.out c.loop-k.at c.loop-k.invariant (room_first text (line k c.get.result) c.args.out.now room)
 
 pub slice_bounds-put_line-start : goal.slice_bounds-put_line-start
@@ -22,7 +22,7 @@ put_line-at-requires c =
     let x = c.args.times.now in
     let k = c.loop-k.k in
     let below : k < x.count = omega (arith, c.count-k-end.ensures) in
-    let room = row_room x k c.at.result c.get.result below c.at.ensures c.get.ensures c.args.out.now c.requires in
+    let room = row_room x k c.at.result c.get.result below c.at.ensures.entry c.get.ensures c.args.out.now c.requires in
     record {
       before = omega arith;
       between = omega arith;
@@ -34,14 +34,14 @@ overflow_add-at c =
     let x = c.args.times.now in
     let k = c.loop-k.k in
     let below : k < x.count = omega (arith, c.count-k-end.ensures) in
-    let room = row_room x k c.at.result c.get.result below c.at.ensures c.get.ensures c.args.out.now c.requires in
+    let room = row_room x k c.at.result c.get.result below c.at.ensures.entry c.get.ensures c.args.out.now c.requires in
     omega (arith, c.loop-k.invariant.long, c.put_line-at.ensures.long, length-append (lines 0 (take k (listed x))) (line k c.get.result))
 
 pub loop-k-preserved : goal.loop-k-preserved
 loop-k-preserved c =
     let x = c.args.times.now in
     let below : c.loop-k.k < x.count = omega (arith, c.count-k-end.ensures) in
-    put_row x c.loop-k.k c.at.result c.get.result below c.at.ensures c.get.ensures c.args.out.now c.loop-k.out c.put_line-at.new.out c.loop-k.at c.put_line-at.result
+    put_row x c.loop-k.k c.at.result c.get.result below c.at.ensures.entry c.get.ensures c.args.out.now c.loop-k.out c.put_line-at.new.out c.loop-k.at c.put_line-at.result
     c.loop-k.invariant c.put_line-at.ensures
 
 pub returns : goal.returns

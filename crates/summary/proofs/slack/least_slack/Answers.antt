@@ -1,4 +1,4 @@
-use Rattle.std.proofs.Common.{◌≡◌, ℕ, ◌+◌, Option, sym, ◌∙◌, subst, arith}
+use Rattle.std.proofs.Common.{ℕ, ◌+◌, Option, sym, ◌∙◌, subst, arith}
 use Rattle.summary.specs.Slack.{Least}
 use Rattle.summary.proofs.Slacks.{within, untimed, looser, taken}
 use Rattle.summary.proofs.slack.least_slack.Goals as goal

@@ -1,7 +1,7 @@
-use Rattle.std.proofs.Common.{◌≡◌, ℕ, ◌+◌, ◌<◌, ◌≤◌, true, false, ◌&&◌, ltb, List, length, get_or, drop, sym, ap, ◌∙◌, ⊎_elim}
+use Rattle.std.proofs.Common.{◌≡◌, ℕ, ◌+◌, ◌<◌, true, false, ◌&&◌, ltb, List, length, get_or, drop, sym, ap, ◌∙◌, ⊎_elim}
 use Rattle.std.proofs.lemmas.List.{at_drop_more, at_drop_all}
 use Rattle.std.proofs.lemmas.Bool.{and_left, and_right, and_from, lt-leb, le-leb}
-use Rattle.tables.specs.Kinds.{all_pass, good_name, within}
+use Rattle.tables.specs.Kinds.{all_pass, within}
 use Rattle.tables.proofs.names.is_good_name.Goals as goal
 
 step : (bs : List ℕ) (i : ℕ) → i < length bs → all_pass (within 33 126) (drop i bs) ≡ ((within 33 126) (get_or bs i 0) && all_pass (within 33 126) (drop (i + 1) bs))

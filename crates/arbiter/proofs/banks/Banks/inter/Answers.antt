@@ -1,4 +1,4 @@
-use Rattle.std.proofs.Common.{◌≡◌, ◌+◌, sym, refl, ap, ◌∙◌, arith}
+use Rattle.std.proofs.Common.{sym, refl, ap, ◌∙◌, arith}
 use Rattle.arbiter.specs.Questions.{apart}
 use Rattle.terms.specs.declared.numbers.DelayPerRequest.{DelayPerRequest}
 use Rattle.terms.proofs.Sums.{sum_took, sum_left, sum_le}

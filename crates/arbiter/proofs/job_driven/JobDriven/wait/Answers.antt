@@ -1,4 +1,4 @@
-use Rattle.std.proofs.Common.{◌≡◌, ◌+◌, ◌*◌, ◌^◌, ◌≤◌, sym, refl, ap, ◌∙◌, arith}
+use Rattle.std.proofs.Common.{◌≡◌, ◌+◌, ◌*◌, sym, ap, ◌∙◌, arith}
 use Rattle.arbiter.specs.Questions.{count}
 use Rattle.arbiter.specs.Banks.{between}
 use Rattle.terms.specs.declared.numbers.Picos.{Picos}

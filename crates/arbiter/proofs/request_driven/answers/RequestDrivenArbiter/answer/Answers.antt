@@ -1,5 +1,4 @@
-use Rattle.std.proofs.Common.{◌≡◌, ◌^◌, ◌≤◌, false, sym, ◌∙◌, mul-le-mul, arith}
-use Rattle.arbiter.specs.Questions.{beyond}
+use Rattle.std.proofs.Common.{◌≤◌, sym, mul-le-mul, arith}
 use Rattle.arbiter.proofs.Bounds.{wait_le}
 use Rattle.arbiter.specs.Counts.{small}
 use Rattle.arbiter.proofs.request_driven.answers.RequestDrivenArbiter.answer.Goals as goal

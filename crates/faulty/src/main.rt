@@ -1,8 +1,11 @@
-//! The table of faults: each line tells a table file by a base file and what stands otherwise in it.
-use super::answer;
+//! Reads a table of faults, each line of which tells a table file by a base file and what stands otherwise in it, and
+//! prints what becomes of every one.
+#![tactic(auto)]
+
 use anyhow::anyhow;
-use std::alloc::Global;
 use std::fs;
+use tables::held::Tables;
+use tables::room::Room;
 
 /// The first word of a line, and what follows it.
 fn word(line: &str) -> anyhow::Result<(&str, &str)> {
@@ -58,15 +61,23 @@ fn read_case<'a>(rt: &HostRuntime, line: &'a str) -> anyhow::Result<Case<'a>> {
 }
 
 /// Reads every file of the table, and prints what becomes of it.
-pub(super) fn faulty_files(rt: &HostRuntime) -> anyhow::Result<()> {
+fn faulty_files(rt: &HostRuntime) -> anyhow::Result<()> {
     let table = fs::read_to_string(rt, "faults.txt")?;
     for line in table.lines() {
         let case = read_case(rt, line)?;
         let what = case.what;
-        match answer(rt.alloc(), case.file.as_slice())? {
-            None => println!(rt; "{what}: accepted")?,
-            Some((number, tells)) => println!(rt; "{what}: refused {number} at {tells}")?,
+        match Tables::read(Room::reserve(rt.alloc())?, case.file.as_slice()) {
+            Ok(_) => println!(rt; "{what}: accepted")?,
+            Err(refusal) => {
+                let number = refusal.number();
+                let tells = refusal.tells();
+                println!(rt; "{what}: refused {number} at {tells}")?
+            }
         }
     }
     Ok(())
+}
+
+fn main(rt: HostRuntime) -> anyhow::Result<()> {
+    faulty_files(&rt)
 }
