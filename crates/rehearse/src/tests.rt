@@ -16,7 +16,7 @@ fn placements(rt: HostRuntime) -> Result<(), Fail> {
     let Some(Change::Adopt { entries }) = change(b"adopt 0 - 255 007", heap)? else {
         return Err(Fail::new("adopt"));
     };
-    assert!(rt; entries.as_slice() == [0, 255, 255, 7]);
+    assert!(rt; entries.as_slice() == [0, 255, 255, 7].as_slice());
     let Some(Change::Adopt { entries }) = change(b"adopt", heap)? else {
         return Err(Fail::new("adopt alone"));
     };
@@ -89,11 +89,11 @@ fn bad_lines(rt: HostRuntime) -> Result<(), Fail> {
 fn lines(rt: HostRuntime) -> Result<(), Fail> {
     let heap = rt.alloc();
     let all = Script::read(b"# a day\n\nwithdraw 1\n#\nplace 1 2", heap)?;
-    assert!(rt; all.lines.as_slice() == [3, 5]);
+    assert!(rt; all.lines.as_slice() == [3, 5].as_slice());
     assert!(rt; all.changes.len() == 2);
     assert_eq!(rt; all.unread, None);
     let stopped = Script::read(b"withdraw 1\n\n #\nwithdraw 2\n", heap)?;
-    assert!(rt; stopped.lines.as_slice() == [1]);
+    assert!(rt; stopped.lines.as_slice() == [1].as_slice());
     assert_eq!(rt; stopped.unread, Some(3));
     assert_eq!(rt; Script::read(b"", heap)?.unread, None);
     Ok(())

@@ -3,7 +3,7 @@ use Rattle.std.proofs.Common.{◌≡◌, ℕ, ◌<◌, List, [], length, get_or,
 use Rattle.std.proofs.lemmas.List.{length-map}
 use Rattle.std.proofs.ByRecursion.{All-get_or, All-map}
 use Rattle.std.specs.Int.Digits.{AllBelowBase}
-use Rattle.std.specs.List.{AllByRecursion as All}
+use Rattle.std.specs.List.{AllByRecursion}
 use Rattle.terms.specs.declared.refusal.Refusal.{Refusal}
 use Rattle.tables.specs.declared.model.Partition.{Partition}
 use Rattle.tables.specs.declared.model.Task.{Task}
@@ -130,8 +130,8 @@ module _ (file : List ℕ) (h : Header) (to : ℕ) (ok : Headed file 0 h to) whe
             let rp = partitions_ran file under sound o₁ hp.entries (subst (λ g. rows_from partition_kind file g.partitions g.partitions 3 [] ≡ Ok (o₁, hp.entries)) is hp.are) in
             let rt = tasks_ran file under sound o₁ o₂ ht.entries (subst (λ g. rows_from task_kind file g.partitions g.tasks o₁ [] ≡ Ok (o₂, ht.entries)) is ht.are) rp.inside in
             let rl = links_ran file under sound o₂ o₃ hl.entries (subst (λ g. rows_from link_kind file g.partitions g.links o₂ [] ≡ Ok (o₃, hl.entries)) is hl.are) rt.inside in
-            let timed : All (λ p. Period p.period.0) xs = subst (All (λ p. Period p.period.0)) (sym hp.hold) (All-map (λ p. Period p.period.0) (λ e. e.0) hp.entries rp.all) in
-            let each : All (TaskKept h.partitions) ys = subst (λ g. All (TaskKept g.partitions) ys) (sym is) (subst (All (TaskKept (header_of (head_at file 0)).partitions)) (sym ht.hold) (All-map (TaskKept (header_of (head_at file 0)).partitions) (λ e. e.0) ht.entries rt.all)) in
+            let timed : AllByRecursion (λ p. Period p.period.0) xs = subst (AllByRecursion (λ p. Period p.period.0)) (sym hp.hold) (All-map (λ p. Period p.period.0) (λ e. e.0) hp.entries rp.all) in
+            let each : AllByRecursion (TaskKept h.partitions) ys = subst (λ g. AllByRecursion (TaskKept g.partitions) ys) (sym is) (subst (AllByRecursion (TaskKept (header_of (head_at file 0)).partitions)) (sym ht.hold) (All-map (TaskKept (header_of (head_at file 0)).partitions) (λ e. e.0) ht.entries rt.all)) in
             record {
               counted = subst Counts (sym is) (counts (header_of (head_at file 0)) sound.range);
               partitions = ap length hp.hold ∙ length-map hp.entries (λ e. e.0) ∙ rp.count ∙ ap (λ g. g.partitions) (sym is);

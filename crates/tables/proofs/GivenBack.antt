@@ -1,6 +1,6 @@
 -- The layout of tables and names in range is accepted, and gives them back. Assumes nothing.
 use Rattle.std.proofs.Common.{◌≡◌, ℕ, suc, ◌+◌, ◌≤◌, true, List, [], ◌∷◌, ◌++◌, map, length, get_or, None, Ok, sym, refl, ap, ◌∙◌, append_assoc, append-nil, arith, length-append}
-use Rattle.std.specs.List.{flat_map, AllByRecursion as All}
+use Rattle.std.specs.List.{flat_map, AllByRecursion}
 use Rattle.std.proofs.lemmas.List.{length-map}
 use Rattle.std.proofs.lemmas.Bool.{le-leb, le-ltb, eq-eqb, and_from, or_from, not_from_true}
 use Rattle.terms.specs.declared.refusal.Refusal.TheVariants.{Incomplete, FieldRange, BytesAfterEnd}
@@ -46,7 +46,7 @@ unnamed_first : (ls : List Link) → map (λ e. e.0) (unnamed ls) ≡ ls
 unnamed_first [] = refl
 unnamed_first (l ∷ ls) = ap (λ zs. l ∷ zs) (unnamed_first ls)
 
-unnamed_back : (parts : ℕ) → parts ≤ 16 → (ls : List Link) → All (LinkFits parts) ls → All (Back link_kind) (unnamed ls)
+unnamed_back : (parts : ℕ) → parts ≤ 16 → (ls : List Link) → AllByRecursion (LinkFits parts) ls → AllByRecursion (Back link_kind) (unnamed ls)
 unnamed_back parts few [] h = tt
 unnamed_back parts few (l ∷ ls) h = (link_back parts few l h.0, unnamed_back parts few ls h.1)
 

@@ -1,6 +1,6 @@
 -- An accepted file is the layout of its tables and names. Assumes nothing.
 use Rattle.std.proofs.Common.{◌≡◌, ℕ, ◌+◌, ◌-◌, ◌*◌, ◌/◌, ◌%◌, ◌^◌, ◌<◌, ◌≤◌, true, List, [], ◌∷◌, ◌++◌, map, length, take, None, Ok, sym, refl, ap, ◌∙◌, subst, append_assoc, append-nil, arith, length-take}
-use Rattle.std.specs.List.{flat_map, AllByRecursion as All}
+use Rattle.std.specs.List.{flat_map, AllByRecursion}
 use Rattle.std.specs.Int.Digits.{AllBelowBase, number_from_digits}
 use Rattle.std.proofs.lemmas.List.{take_all, length-map}
 use Rattle.std.proofs.ByRecursion.{All-take}
@@ -63,7 +63,7 @@ paired_maps [] = refl
 paired_maps (e ∷ es) = ap (λ xs. e ∷ xs) (paired_maps es)
 
 -- links have no names
-unnamed : (es : List (Link × List ℕ)) → All (λ e. e.1 ≡ []) es → flat_map (row_bytes link_kind) es ≡ flat_map (λ l. link_kind.fixed l 0) (map (λ e. e.0) es)
+unnamed : (es : List (Link × List ℕ)) → AllByRecursion (λ e. e.1 ≡ []) es → flat_map (row_bytes link_kind) es ≡ flat_map (λ l. link_kind.fixed l 0) (map (λ e. e.0) es)
 unnamed [] h = refl
 unnamed (e ∷ es) h = λ i. (ap (λ x. link_kind.fixed e.0 0 ++ x) h.0 ∙ append-nil (link_kind.fixed e.0 0)) i ++ unnamed es h.1 i
 

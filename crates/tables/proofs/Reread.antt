@@ -1,6 +1,6 @@
 -- Rows that are laid out one after another are read back. Assumes nothing.
 use Rattle.std.proofs.Common.{◌≡◌, ℕ, ◌+◌, ◌≤◌, Bool, true, false, List, [], ◌∷◌, ◌++◌, map, length, take, drop, None, Ok, Option, sym, refl, ap, ◌∙◌, append_assoc, append-nil, arith, length-append}
-use Rattle.std.specs.List.{flat_map, AllByRecursion as All}
+use Rattle.std.specs.List.{flat_map, AllByRecursion}
 use Rattle.std.proofs.lemmas.List.{drop_at, take_at}
 use Rattle.std.proofs.lemmas.Bool.{le-ltb, not_from_true}
 use Rattle.terms.specs.declared.refusal.Refusal.{Refusal}
@@ -54,7 +54,7 @@ module _ {R : Type 0} (k : Kind R) (parts : ℕ) (file : List ℕ) where
         sound = none_all _ _ _ _ _ _ _ (le-ltb _ _ first) (ap (k.fault o parts before) (ap k.value fixed ∙ b.value) ∙ clear o) (le-ltb _ _ all) (not_from_true _ (ap k.name_ok name ∙ b.ok));
       }
 
-  pub reread : (es : List (R × List ℕ)) (front tail : List ℕ) (before : List (R × List ℕ)) → file ≡ front ++ (flat_map (row_bytes k) es ++ tail) → All (Back k) es → Clear k parts before es → rows_from k file parts (length es) (length front) before ≡ Ok (length (front ++ flat_map (row_bytes k) es), before ++ es)
+  pub reread : (es : List (R × List ℕ)) (front tail : List ℕ) (before : List (R × List ℕ)) → file ≡ front ++ (flat_map (row_bytes k) es ++ tail) → AllByRecursion (Back k) es → Clear k parts before es → rows_from k file parts (length es) (length front) before ≡ Ok (length (front ++ flat_map (row_bytes k) es), before ++ es)
   reread [] front tail before is b c = λ i. Ok (length (sym (append-nil front) i), sym (append-nil before) i)
   reread (e ∷ es) front tail before is b c =
       let rest = flat_map (row_bytes k) es in

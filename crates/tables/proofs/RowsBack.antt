@@ -1,6 +1,6 @@
 -- Rows in range can be read back, and have no fault. Assumes nothing.
 use Rattle.std.proofs.Common.{◌≡◌, ℕ, ◌+◌, ◌-◌, ◌<◌, ◌≤◌, Bool, true, cond, not, eqb, List, [], ◌∷◌, ◌++◌, map, length, get_or, None, sym, refl, ap, ◌∙◌, subst, append_assoc, arith}
-use Rattle.std.specs.List.{AllByRecursion as All}
+use Rattle.std.specs.List.{AllByRecursion}
 use Rattle.std.proofs.lemmas.List.{map_push, length_push, get_or_push}
 use Rattle.std.proofs.lemmas.Bool.{le-leb, lt-leb, lt-ltb, eq-eqb, and_from, or_from, or_right, not_from_true}
 use Rattle.terms.specs.declared.numbers.Picos.{Picos}
@@ -17,7 +17,7 @@ use Rattle.tables.proofs.InRange.{range_kept}
 use Rattle.tables.proofs.Unpacking.{Fit, fields, field_at}
 use Rattle.tables.proofs.Reread.{Back, Clear}
 
-pub paired_all : {X Y : Type 0} (P : X → Type 0) (Q : Y → Type 0) (S : X × Y → Type 0) → ((x : X) (y : Y) → P x → Q y → S (x, y)) → (xs : List X) (ys : List Y) → All P xs → All Q ys → All S (paired xs ys)
+pub paired_all : {X Y : Type 0} (P : X → Type 0) (Q : Y → Type 0) (S : X × Y → Type 0) → ((x : X) (y : Y) → P x → Q y → S (x, y)) → (xs : List X) (ys : List Y) → AllByRecursion P xs → AllByRecursion Q ys → AllByRecursion S (paired xs ys)
 paired_all P Q S f [] ys h g = tt
 paired_all P Q S f (x ∷ xs) [] h g = tt
 paired_all P Q S f (x ∷ xs) (y ∷ ys) h g = (f x y h.0 g.0, paired_all P Q S f xs ys h.1 g.1)
@@ -33,7 +33,7 @@ partition_back p name period fits =
     let e1 = field_at partition_widths vs 6 44 4 (omega arith) ∙ ap (λ l. get_or l 1 0) e in
     record { long = refl; value = λ i. record { period = as_picos (e0 i) }; name = e1; ok = fits.good }
 
-pub partitions_clear : (parts : ℕ) (ps : List Partition) (ns : List (List ℕ)) (before : List (Partition × List ℕ)) → All (λ p. Period p.period.0) ps → Clear partition_kind parts before (paired ps ns)
+pub partitions_clear : (parts : ℕ) (ps : List Partition) (ns : List (List ℕ)) (before : List (Partition × List ℕ)) → AllByRecursion (λ p. Period p.period.0) ps → Clear partition_kind parts before (paired ps ns)
 partitions_clear parts [] ns before h = tt
 partitions_clear parts (p ∷ ps) [] before h = tt
 partitions_clear parts (p ∷ ps) (n ∷ ns) before h =
@@ -131,7 +131,7 @@ count_append : (p : ℕ) (xs ys : List Task) → count_in p (xs ++ ys) ≡ count
 count_append p [] ys = omega arith
 count_append p (x ∷ xs) ys = omega (arith, count_append p xs ys)
 
-pub tasks_clear : (parts : ℕ) (ts : List Task) (ns : List (List ℕ)) (before : List (Task × List ℕ)) → All (TaskFits parts) ts → ((p : ℕ) → count_in p (map (λ x. x.0) before ++ ts) ≤ 16) → Clear task_kind parts before (paired ts ns)
+pub tasks_clear : (parts : ℕ) (ts : List Task) (ns : List (List ℕ)) (before : List (Task × List ℕ)) → AllByRecursion (TaskFits parts) ts → ((p : ℕ) → count_in p (map (λ x. x.0) before ++ ts) ≤ 16) → Clear task_kind parts before (paired ts ns)
 tasks_clear parts [] ns before h few = tt
 tasks_clear parts (t ∷ ts) [] before h few = tt
 tasks_clear parts (t ∷ ts) (n ∷ ns) before h few =
@@ -170,7 +170,7 @@ follow_more before l (m ∷ ms) h =
     let last : get_or (before ++ l ∷ []) (length (before ++ l ∷ []) - 1) no_link ≡ l = get_or_push before l no_link (length (before ++ l ∷ []) - 1) (omega (arith, long)) in
     (or_right _ _ (ap (λ x. comes_before x m) last ∙ h.0), h.1)
 
-pub links_clear : (parts : ℕ) (ls : List Link) (before : List (Link × List ℕ)) → All (LinkFits parts) ls → Follow (map (λ x. x.0) before) ls → Clear link_kind parts before (map (λ l. (l, [])) ls)
+pub links_clear : (parts : ℕ) (ls : List Link) (before : List (Link × List ℕ)) → AllByRecursion (LinkFits parts) ls → Follow (map (λ x. x.0) before) ls → Clear link_kind parts before (map (λ l. (l, [])) ls)
 links_clear parts [] before h order = tt
 links_clear parts (l ∷ ls) before h order =
     let front = map (λ x. x.0) before in

@@ -1,6 +1,6 @@
 -- A run of rows that is accepted: what it holds, and the bytes that it stands in. Assumes nothing.
 use Rattle.std.proofs.Common.{◌≡◌, ℕ, zero, suc, ◌+◌, ◌<◌, ◌≤◌, List, [], ◌∷◌, ◌++◌, map, length, take, drop, Some, None, Ok, Err, Option, Result, sym, refl, ap, ◌∙◌, subst, append_assoc, append-nil, arith, length-drop, take-append-drop, length-take}
-use Rattle.std.specs.List.{flat_map, AllByRecursion as All}
+use Rattle.std.specs.List.{flat_map, AllByRecursion}
 use Rattle.std.specs.Int.Digits.{AllBelowBase}
 use Rattle.std.proofs.lemmas.List.{flat_map_more, length_push, drop-take, take-take}
 use Rattle.std.proofs.ByRecursion.{All-take, All-drop, All-push}
@@ -35,7 +35,7 @@ module _ {R : Type 0} (k : Kind R) (file : List ℕ) (parts : ℕ) (P : R × Lis
   record Laid (front : List ℕ) (o : ℕ) (es : List (R × List ℕ)) : Type 0 where
     text : take o file ≡ front ++ flat_map (row_bytes k) es
     inside : o ≤ length file
-    all : All P es
+    all : AllByRecursion P es
 
   laid_one : (front : List ℕ) (o : ℕ) (es : List (R × List ℕ)) (before : List R) → Sound k file parts o before → Laid front o es → Laid front (end_at k file o) (es ++ (k.value (fixed_at k file o), name_at k file o) ∷ [])
   laid_one front o es before s h =
@@ -67,7 +67,7 @@ module _ {R : Type 0} (k : Kind R) (file : List ℕ) (parts : ℕ) (P : R × Lis
   pub record Ran (o n to : ℕ) (fs : List (R × List ℕ)) : Type 0 where
     pub text : take to file ≡ take o file ++ flat_map (row_bytes k) fs
     pub inside : to ≤ length file
-    pub all : All P fs
+    pub all : AllByRecursion P fs
     pub count : length fs ≡ n
 
   pub ran : (n o to : ℕ) (fs : List (R × List ℕ)) → rows_from k file parts n o [] ≡ Ok (to, fs) → o ≤ length file → Ran o n to fs

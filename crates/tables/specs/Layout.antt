@@ -1,6 +1,6 @@
 -- The file that tables and names make. Assumes nothing.
 use Rattle.std.specs.Prelude.{◌≡◌, ℕ, ◌<◌, ◌≤◌, true, List, [], ◌∷◌, ◌++◌, map, length}
-use Rattle.std.specs.List.{flat_map, AllByRecursion as All}
+use Rattle.std.specs.List.{flat_map, AllByRecursion}
 use Rattle.tables.specs.declared.model.Partition.{Partition}
 use Rattle.tables.specs.declared.model.Task.{Task}
 use Rattle.tables.specs.declared.model.Link.{Link}
@@ -77,10 +77,10 @@ pub record NameFits (name : List ℕ) : Type 0 where
 pub record InRange (t : Tabled) (n : Named) : Type 0 where
   pub cores : (1 ≤ t.cores) × (t.cores ≤ 4)
   pub few : (length t.partitions ≤ 16) × (length t.tasks ≤ 64) × (length t.links ≤ 120)
-  pub partitions : All (λ p. Period p.period.0) t.partitions
-  pub tasks : All (TaskFits (length t.partitions)) t.tasks
+  pub partitions : AllByRecursion (λ p. Period p.period.0) t.partitions
+  pub tasks : AllByRecursion (TaskFits (length t.partitions)) t.tasks
   pub crowd : (p : ℕ) → count_in p t.tasks ≤ 16
-  pub links : All (LinkFits (length t.partitions)) t.links
+  pub links : AllByRecursion (LinkFits (length t.partitions)) t.links
   pub order : Rising t.links
   pub each_named : (length n.partitions ≡ length t.partitions) × (length n.tasks ≡ length t.tasks)
-  pub names : All NameFits n.partitions × All NameFits n.tasks
+  pub names : AllByRecursion NameFits n.partitions × AllByRecursion NameFits n.tasks
