@@ -41,7 +41,7 @@ fn given(answer: Answer) -> Answer {
     answer
 }
 
-/// Writes what check prints into the front of a buffer.
+/// Writes what checker prints into the front of a buffer.
 pub fn check(file: &[u8], allocation: &[u8], out: &mut [u8]) -> Answer {
     // the slices are valid for their lengths during the call, and `out` is lent to it alone
     given(unsafe {

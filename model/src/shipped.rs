@@ -223,9 +223,9 @@ pub fn files(text: &str, changes: &[u8]) -> Result<Vec<(String, Vec<u8>)>, Strin
 
     let mut lines = String::from(
         "# Inputs that are refused\n\n\
-         For each input NAME.tab is the table file, NAME.alloc the allocation, NAME.check what the program check \
+         For each input NAME.tab is the table file, NAME.alloc the allocation, NAME.check what the program checker \
          prints and NAME.summary what the program summary prints.\n\n\
-         | Input | Check prints | What is wrong |\n|---|---|---|\n",
+         | Input | Checker prints | What is wrong |\n|---|---|---|\n",
     );
     for Refused { name, why, tab, alloc } in refused(&station) {
         let (seen_tab, seen_alloc) = (head(&tab, MOST_TABLE_BYTES), head(&alloc, MOST_ALLOCATION_BYTES));

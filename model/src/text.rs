@@ -9,7 +9,7 @@ pub const MOST_TABLE_BYTES: usize = 4_236;
 /// At most so many bytes of the allocation are read: one more than the largest has.
 pub const MOST_ALLOCATION_BYTES: usize = 17;
 
-/// What the program check prints for these two files: the listing, or the refusal.
+/// What the program checker prints for these two files: the listing, or the refusal.
 pub fn check_text(table_file: &[u8], allocation: &[u8]) -> Vec<u8> {
     let listing = || -> Result<Vec<u8>, Refusal> {
         let mut plan = Plan::birth(table_file)?;

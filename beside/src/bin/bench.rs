@@ -66,7 +66,7 @@ fn measure(work: &Work, rounds: usize) -> f64 {
     side(0)
 }
 
-/// Judging: what check prints of a file and an allocation.
+/// Judging: what checker prints of a file and an allocation.
 fn judging<'a>(name: &str, input: &'a Input) -> Work<'a> {
     let Input { file, allocation } = input;
     let text = model::check_text(file, allocation);

@@ -1,4 +1,4 @@
-//! What check prints of small files.
+//! What checker prints of small files.
 use super::files::{
     FIRST, FIRST_FIVE, LATE, LINKED, ONE, PAIR, RECEIVE, SECOND, SECOND_FIVE, WRITE,
 };
@@ -23,7 +23,7 @@ pub(super) fn joined(
     Ok(file)
 }
 
-/// Whether check prints this text of a file and an allocation.
+/// Whether checker prints this text of a file and an allocation.
 fn prints(heap: Global, file: &[u8], allocation: &[u8], text: &[u8]) -> Result<bool, AllocError> {
     let mut out = [b'.'; 30];
     match check_text(Room::reserve(heap)?, file, allocation, &mut out) {

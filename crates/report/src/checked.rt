@@ -1,4 +1,4 @@
-//! The listing of a plan, and the text that the program check prints.
+//! The listing of a plan, and the text that the program checker prints.
 ghost use Rattle.std.specs.Prelude.{◌≡◌, ℕ, ◌≤◌, true, length, is_ok, IfOk};
 ghost use Rattle.plan.specs.Born.{state_of};
 ghost use Rattle.report.specs.Checked.{Checked, Judgement, Listed};
@@ -38,7 +38,7 @@ pub fn judge(room: Room, file: &[u8], allocation: &[u8]) -> Result<Adopted, Refu
     Ok(Adopted { plan, pile })
 }
 
-/// Writes what check prints of a table file and an allocation into the front of a buffer, and tells its length: the
+/// Writes what checker prints of a table file and an allocation into the front of a buffer, and tells its length: the
 /// listing of the plan that has adopted the allocation, or the line of the refusal. Refuses a buffer that is too short
 /// for that text, and then writes nothing.
 pub fn check_text(

@@ -1,4 +1,4 @@
-//! Prints what the program check prints for a table file and an allocation.
+//! Prints what the program checker prints for a table file and an allocation.
 use model::input::first_bytes;
 use model::text::{check_text, MOST_ALLOCATION_BYTES, MOST_TABLE_BYTES};
 use std::io::{stdout, Write};
