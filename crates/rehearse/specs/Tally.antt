@@ -1,5 +1,5 @@
 -- What became of a change, as a test. Assumes nothing.
-use Rattle.std.specs.Prelude.{ℕ, Bool, true, false, is_ok, Ok, Err, Result, ◌==◌}
+use Rattle.std.specs.Prelude.{ℕ, Bool, false, is_ok, Ok, Err, Result, ◌==◌}
 use Rattle.terms.specs.Refusals.{told}
 use Rattle.terms.specs.declared.refusal.Refusal.{Refusal}
 use Rattle.plan.specs.declared.outcome.Outcome.{Outcome}

@@ -1,4 +1,4 @@
-use Rattle.std.proofs.Common.{List, [], ◌∷◌, length, replicate, Ok, Err, Result, sym, ap, ◌∙◌, subst}
+use Rattle.std.proofs.Common.{List, [], ◌∷◌, length, replicate, Err, Result, sym, ap, ◌∙◌, subst}
 use native.Mathlib.Nat.{min-eq_left}
 use Rattle.std.proofs.lemmas.Result.{err_from_is_err_and}
 use Rattle.arbiter.specs.Station.{OurPile}

@@ -1,7 +1,7 @@
-use Rattle.std.proofs.Common.{◌++◌, codes, decimal, sym, ap, ◌∙◌}
+use Rattle.std.proofs.Common.{sym, ap, ◌∙◌}
 use Rattle.std.proofs.lemmas.Result.{IfOk-weaker}
 use Rattle.rehearse.specs.Transcript.{outcome_text}
-use Rattle.rehearse.proofs.Lines.{refusal_pieces, outcome_pieces}
+use Rattle.rehearse.proofs.Lines.{outcome_pieces}
 use Rattle.rehearse.proofs.transcript.outcome_line.Goals as goal
 
 pub returns-in-Ok : goal.returns-in-Ok
