@@ -14,7 +14,7 @@ Wanting a = (a.number ≡ 255) × (a.tells ≡ 0)
 abbrev pub Reads : List ℕ → Answer → Type 0
 Reads file a = (a.number, a.tells) ≡ reading (decode file)
 
--- an answer, and a buffer before and after the text that check prints of a file and of entries was written into it
+-- an answer, and a buffer before and after the text that checker prints of a file and of entries was written into it
 pub record Checks (file entries old : List ℕ) (a : Answer) (new : List ℕ) : Type 0 where
   pub result : Result ℕ Refusal
   pub numbers : (a.number, a.tells) ≡ in_numbers result

@@ -1,4 +1,4 @@
--- What the listing of a plan is, and the text that the program check prints. Assumes nothing.
+-- What the listing of a plan is, and the text that the program checker prints. Assumes nothing.
 use Rattle.std.specs.Prelude.{◌≡◌, ℕ, ◌<◌, min, ◌⊎◌, List, length, Ok, Err, Result, slice_index_or}
 use Rattle.terms.specs.Refusals.{told}
 use Rattle.terms.specs.declared.numbers.Picos.{Picos}
@@ -61,6 +61,6 @@ abbrev pub CheckedBy : Result Book (ℕ × ℕ) → List ℕ → List ℕ → Li
 CheckedBy (Ok book) file entries old r new = Answered file entries old r new
 CheckedBy (Err t) file entries old r new = Written (refusal_text t) old r new
 
--- a buffer before and after the text that check prints of a file and of entries was written into it
+-- a buffer before and after the text that checker prints of a file and of entries was written into it
 unfoldable pub Checked : List ℕ → List ℕ → List ℕ → Result ℕ Refusal → List ℕ → Type 0
 Checked file entries old r new = CheckedBy (decode file) file entries old r new
