@@ -3,10 +3,14 @@ use Rattle.std.specs.Prelude.{◌≡◌, ℕ, cond, List, length, is_some, Some,
 use Rattle.terms.specs.declared.numbers.Picos.{Picos}
 use Rattle.terms.specs.declared.refusal.Refusal.{Refusal}
 use Rattle.arbiter.specs.declared.question.Question.{Question}
+use Rattle.tables.specs.Layout.{Tabled}
+use Rattle.tables.specs.Tabled.{tabled}
+use Rattle.tables.specs.declared.held.spare.Spare.{Spare}
 use Rattle.analysis.specs.Demand.{State}
 use Rattle.analysis.specs.Placed.{core_at}
 use Rattle.analysis.specs.Times.{Times}
 use Rattle.plan.specs.Answers.{RefusedWith, SameAnswer}
+use Rattle.plan.specs.Born.{tables_in}
 use Rattle.plan.specs.Calls.{Asked, Call, place_asks}
 
 -- what place was refused with by a check; else what comes after
@@ -44,3 +48,12 @@ pub record Trial (bound : Question → ℕ) (s : State) (partition core : ℕ) (
   -- on every way out the plan stands as before
   pub stands : z ≡ s
   pub answer : Tried bound s partition core (trial_refusal s partition core (length old)) old r new
+
+-- what spare tables say
+abbrev pub said_by : Spare → Tabled
+said_by c = tabled c.tables
+
+-- the spare tables before and after a trial: as they were where a check refused it, else those of the plan
+abbrev pub Copied : Option (ℕ × ℕ) → State → Tabled → Tabled → Type 0
+Copied (Some t) s before after = after ≡ before
+Copied None s before after = after ≡ tables_in s

@@ -1,8 +1,8 @@
 //! What placing a partition would do.
-ghost use Rattle.std.specs.Prelude.{◌≡◌, ℕ, Some, None, MatchResult};
+ghost use Rattle.std.specs.Prelude.{◌≡◌, ℕ, Some, None, length, MatchResult};
 ghost use Rattle.terms.specs.Refusals.{told};
-ghost use Rattle.plan.specs.Born.{state_of};
-ghost use Rattle.plan.specs.Trial.{Trial, trial_refusal};
+ghost use Rattle.plan.specs.Born.{state_of, tables_in};
+ghost use Rattle.plan.specs.Trial.{Trial, Copied, said_by, trial_refusal};
 
 use super::guard::Held;
 use super::plan::Plan;
@@ -16,7 +16,7 @@ use terms::refusal::Refusal;
 
 impl Plan {
     /// Fills a buffer with the times that there would be with an unplaced partition placed on a core. The plan stays as
-    /// it is; the tables are copied into the spare ones, which were reserved before. Refused where there is no such
+    /// it is; past its checks the tables are copied into the spare ones, which were reserved before. Refused where there is no such
     /// partition or core, where the partition is placed, where the buffer is too short, and where some task would be late.
     pub fn trial<B: Arbiter>(
         &mut self,
@@ -26,9 +26,26 @@ impl Plan {
         out: &mut [Picos],
         arbiter: &B,
     ) -> Result<(), Refusal>
-        ensures { Trial (B.bound arbiter.now) (state_of self.old) partition core out.old result (state_of self.new) out.new }
+        ensures trial { Trial (B.bound arbiter.now) (state_of self.old) partition core out.old result (state_of self.new) out.new }
+        ensures copied { Copied (trial_refusal (state_of self.old) partition core (length out.old)) (state_of self.old) (said_by spare.old) (said_by spare.new) }
     {
         self.triable(partition, core, out.len())?;
+        self.tried(spare, partition, core, out, arbiter)
+    }
+
+    /// A trial past its checks.
+    fn tried<B: Arbiter>(
+        &mut self,
+        spare: &mut Spare,
+        partition: usize,
+        core: usize,
+        out: &mut [Picos],
+        arbiter: &B,
+    ) -> Result<(), Refusal>
+        requires { trial_refusal (state_of self.old) partition core (length out.old) ≡ None }
+        ensures trial { Trial (B.bound arbiter.now) (state_of self.old) partition core out.old result (state_of self.new) out.new }
+        ensures copied { said_by spare.new ≡ tables_in (state_of self.old) }
+    {
         spare.copy_from(&self.tables);
         let tables = spare.tables();
         let former = self.placement.core_of(partition);

@@ -4,9 +4,9 @@ use Rattle.tables.specs.Tabled.{tabled}
 use Rattle.plan.specs.Born.{state_of}
 use Rattle.plan.proofs.Retimings.{over}
 use Rattle.plan.proofs.Trials.{put_back, tried, tried_on, trial_late, trial_done}
-use Rattle.plan.proofs.plan.Plan.trial.Given as given
-use Rattle.plan.proofs.plan.Plan.trial.Goals as goal
-use Rattle.plan.proofs.plan.Plan.trial.Goals.{After-put}
+use Rattle.plan.proofs.plan.Plan.tried.Given as given
+use Rattle.plan.proofs.plan.Plan.tried.Goals as goal
+use Rattle.plan.proofs.plan.Plan.tried.Goals.{After-put}
 
 -- what was examined: the copy of the tables, with the partition placed
 examined : (g : given.Over) (c : After-put g) → over (tabled c.tables-tables.result.now) c.put.new.self.cores ≡ tried (state_of c.args.self.now) c.args.partition c.args.core
@@ -20,18 +20,18 @@ restored g c after back =
     let own = c.args.self.now in
     ap (λ q. over (tabled own.tables) q) (put_back own.placement.cores c.put.new.self.cores after c.args.partition c.of_number.result c.core_of-former.result c.put.ensures c.core_of-former.ensures back)
 
-pub returns-in-Some : goal.returns-in-Some
-returns-in-Some g c =
-    let d = (goal.at.returns-in-Some g c).After-put in
+pub returns-in-Some-clause-trial : goal.returns-in-Some-clause-trial
+returns-in-Some-clause-trial g c =
+    let d = (goal.at.returns-in-Some-clause-trial g c).After-put in
     record {
       stands = restored g d c.drop-guard.new.self.0.cores c.drop-guard.ensures;
-      answer = trial_late (state_of c.args.self.now) c.args.partition c.args.core (g.B.Arbiter.bound c.args.arbiter.now) c.args.out.now c.in_ok-triable.ensures _ c.in-Some.task (examined g d) c.in-Some.ensures;
+      answer = trial_late (state_of c.args.self.now) c.args.partition c.args.core (g.B.Arbiter.bound c.args.arbiter.now) c.args.out.now c.requires _ c.in-Some.task (examined g d) c.in-Some.ensures;
     }
 
-pub returns : goal.returns
-returns g c =
-    let d = (goal.at.returns g c).After-put in
+pub returns-clause-trial : goal.returns-clause-trial
+returns-clause-trial g c =
+    let d = (goal.at.returns-clause-trial g c).After-put in
     record {
       stands = restored g d c.drop-guard-2.new.self.0.cores c.drop-guard-2.ensures;
-      answer = trial_done (state_of c.args.self.now) c.args.partition c.args.core (g.B.Arbiter.bound c.args.arbiter.now) c.args.out.now c.in_ok-triable.ensures _ c.times.result c.times.new.out (examined g d) c.in_default.ensures c.times.ensures;
+      answer = trial_done (state_of c.args.self.now) c.args.partition c.args.core (g.B.Arbiter.bound c.args.arbiter.now) c.args.out.now c.requires _ c.times.result c.times.new.out (examined g d) c.in_default.ensures c.times.ensures;
     }
