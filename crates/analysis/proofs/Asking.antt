@@ -4,8 +4,7 @@ use Rattle.std.proofs.lemmas.Bool.{eq-eqb, ne_eqb, cond-true, cond-false, cases_
 use Rattle.terms.specs.Cores.{number_of}
 use Rattle.terms.specs.Sums.{sum_where}
 use Rattle.terms.specs.declared.cores.Core.{Core}
-use Rattle.terms.specs.declared.numbers.Picos.{Picos}
-use Rattle.terms.specs.declared.numbers.Requests.{Requests}
+use Rattle.terms.specs.Units.{Picos, Requests}
 use Rattle.terms.proofs.Sums.{sum_took, sum_left}
 use Rattle.tables.specs.Ranges.{no_time, no_requests, no_task, execution_on, requests_on}
 use Rattle.tables.specs.declared.model.Task.{Task}

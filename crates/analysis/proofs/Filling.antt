@@ -1,6 +1,6 @@
 -- A buffer that is filled from its front, one entry more at a time. Assumes nothing.
 use Rattle.std.proofs.Common.{◌≡◌, ℕ, ◌+◌, ◌<◌, ◌≢◌, List, length, get_or, set, ◌∙◌, subst, arith, length-set, get_or-set_other, get_or-set_same, below_more}
-use Rattle.terms.specs.declared.numbers.Picos.{Picos}
+use Rattle.terms.specs.Units.{Picos}
 use Rattle.tables.specs.Ranges.{no_time}
 use Rattle.analysis.specs.Times.{Filled}
 

@@ -1,7 +1,7 @@
 -- The largest time of a partition's tasks, one task more at a time. Assumes nothing.
-use Rattle.std.proofs.Common.{◌≡◌, ℕ, ◌+◌, ◌<◌, ◌≤◌, cond, ltb, Some, sym, refl, ap, ◌∙◌, subst, inl, inr, arith}
-use Rattle.std.proofs.lemmas.Bool.{cases_eq, cases_Bool, ltb-true, ltb-false, cond-true, cond-false}
-use Rattle.terms.specs.declared.numbers.Picos.{Picos}
+use Rattle.std.proofs.Common.{◌≡◌, ℕ, ◌+◌, ◌<◌, ◌≤◌, max, Some, sym, refl, ap, ◌∙◌, subst, inl, inr, arith}
+use Rattle.std.proofs.lemmas.Bool.{cases_eq, cases_lt}
+use Rattle.terms.specs.Units.{amount, Picos}
 use Rattle.arbiter.specs.declared.question.Question.{Question}
 use Rattle.tables.specs.Ranges.{no_time}
 use Rattle.analysis.specs.Demand.{State, task}
@@ -47,9 +47,9 @@ module _ (bound : Question → ℕ) (s : State) (p : ℕ) where
       reached = elim l.reached [ inl z ↦ inl z | inr w ↦ inr (w.0, further n w.0 w.1, w.2) ];
     }
 
-    pub largest_more : (w : Picos) → w ≡ cond (ltb v.0 t.0) t v → Largest bound s p (n + 1) w
+    pub largest_more : (w : Picos) → w.0 ≡ max v.0 t.0 → Largest bound s p (n + 1) w
     largest_more w e =
-        elim (cases_Bool (ltb v.0 t.0)) [
-          | inl more ↦ subst (Largest bound s p (n + 1)) (sym (e ∙ cond-true (ltb v.0 t.0) t v more)) (raised (ltb-true v.0 t.0 more))
-          | inr less ↦ subst (Largest bound s p (n + 1)) (sym (e ∙ cond-false (ltb v.0 t.0) t v less)) (kept (ltb-false v.0 t.0 less))
+        elim (cases_lt v.0 t.0) [
+          | inl more ↦ let is : t.0 ≡ w.0 = omega (arith, more) in subst (Largest bound s p (n + 1)) (ap amount is) (raised more)
+          | inr less ↦ let is : v.0 ≡ w.0 = omega (arith, less) in subst (Largest bound s p (n + 1)) (ap amount is) (kept less)
         ]

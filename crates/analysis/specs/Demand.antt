@@ -3,7 +3,7 @@ use Rattle.std.specs.Prelude.{ℕ, ◌+◌, ◌-◌, ◌*◌, ◌/◌, min, Bool
 use Rattle.terms.specs.Cores.{number_of}
 use Rattle.terms.specs.Sums.{sum_where}
 use Rattle.terms.specs.declared.cores.Core.{Core}
-use Rattle.terms.specs.declared.numbers.Requests.{Requests}
+use Rattle.terms.specs.Units.{amount, Requests}
 use Rattle.arbiter.specs.declared.question.Question.{Question}
 use Rattle.tables.specs.Ranges.{no_task, no_partition, execution_on, requests_on}
 use Rattle.tables.specs.declared.held.Tables.{Tables}
@@ -75,13 +75,13 @@ module _ (s : State) where
   others p q t = cond (q == p) 0 (busy q t)
 
   abbrev counted : ℕ → Requests
-  counted n = record { 0 = n }
+  counted n = amount n
 
   -- what the arbiter is asked for task i on core p
   abbrev pub question : ℕ → Core → ℕ → Question
   question i p t = record {
     core = p;
-    t = record { 0 = t };
+    t = amount t;
     own = counted (own i (number_of p) t);
     others =
         counted (others (number_of p) 0 t) ∷ counted (others (number_of p) 1 t)

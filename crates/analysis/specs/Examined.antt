@@ -1,7 +1,7 @@
 -- The demand of a task under examination. Assumes nothing.
 use Rattle.std.specs.Prelude.{◌≡◌, ℕ, ◌+◌, List, [], ◌∷◌, Some}
 use Rattle.terms.specs.Cores.{number_of}
-use Rattle.terms.specs.declared.numbers.Requests.{Requests}
+use Rattle.terms.specs.Units.{amount, Requests}
 use Rattle.arbiter.specs.declared.question.Question.{Question}
 use Rattle.tables.specs.Ranges.{execution_on, requests_on}
 use Rattle.tables.specs.declared.model.Task.{Task}
@@ -11,14 +11,14 @@ use Rattle.analysis.specs.declared.examined.Examined.{Examined}
 
 module _ (tasks : List Task) (e : Examined) where
   abbrev on : ℕ → ℕ → Requests
-  on q t = record { 0 = all_on tasks e.roles.of q t }
+  on q t = amount (all_on tasks e.roles.of q t)
 
   -- what the arbiter is asked for it
   abbrev pub question_of : ℕ → Question
   question_of t = record {
     core = e.core;
-    t = record { 0 = t };
-    own = record { 0 = e.requests.0 + all_ahead tasks e.roles.of (λ x. requests_on x (number_of e.core)) t };
+    t = amount t;
+    own = amount (e.requests.0 + all_ahead tasks e.roles.of (λ x. requests_on x (number_of e.core)) t);
     others = on 0 t ∷ on 1 t ∷ on 2 t ∷ on 3 t ∷ [];
     sharing = e.sharing;
   }

@@ -3,7 +3,7 @@ use Rattle.std.specs.Prelude.{◌≡◌, ℕ, ◌<◌, ◌≤◌, List, length, 
 use Rattle.std.specs.Option.{unwrap_or}
 use Rattle.terms.specs.Refusals.{told}
 use Rattle.terms.specs.declared.cores.Core.{Core}
-use Rattle.terms.specs.declared.numbers.Picos.{Picos}
+use Rattle.terms.specs.Units.{Picos}
 use Rattle.terms.specs.declared.refusal.Refusal.{Refusal}
 use Rattle.arbiter.specs.declared.question.Question.{Question}
 use Rattle.tables.specs.Ranges.{no_time}

@@ -1,6 +1,6 @@
 -- The window of a partition: the largest time of its tasks. Assumes nothing.
 use Rattle.std.specs.Prelude.{◌≡◌, ℕ, ◌<◌, ◌≤◌, ◌⊎◌, List, length, Some, None, Result}
-use Rattle.terms.specs.declared.numbers.Picos.{Picos}
+use Rattle.terms.specs.Units.{Picos}
 use Rattle.terms.specs.declared.refusal.Refusal.{Refusal}
 use Rattle.arbiter.specs.declared.question.Question.{Question}
 use Rattle.analysis.specs.Demand.{State, task}

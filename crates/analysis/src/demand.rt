@@ -33,7 +33,7 @@ pub(crate) fn task_of(tables: &Tables, k: usize) -> Task
 fn least_of(x: &Task, partition: &Partition) -> Picos
     ensures { result.0 ≡ min x.now.deadline.0 (min partition.now.period.0 x.now.period.0) }
 {
-    x.deadline.lesser(partition.period.lesser(x.period))
+    x.deadline.min(partition.period).min(x.period)
 }
 
 /// The limit of task `i`: the least of its deadline, its partition's period and its own period.
@@ -59,7 +59,7 @@ fn job_of(x: &Task, p: Core) -> Share
     ensures execution { result.execution.0 ≡ execution_on x.now (number_of p) }
     ensures requests { result.requests.0 ≡ requests_on x.now (number_of p) }
 {
-    let core = p.number();
+    let core = usize::from(p);
     Share {
         execution: x.execution[core],
         requests: x.requests[core],
@@ -89,7 +89,7 @@ fn other_share(x: &Task, q: Core, t: Picos) -> Requests
     ensures is { result.0 ≡ other_jobs x.now t.0 * requests_on x.now (number_of q) }
     ensures small { result.0 ≤ 10 ^ 10 }
 {
-    x.requests[q.number()].times(other_jobs(x, t))
+    x.requests[usize::from(q)].times(other_jobs(x, t))
 }
 
 /// Task `i` under examination, if it is placed, where `sharing` says which cores share.
@@ -148,7 +148,7 @@ fn asked_by(tables: &Tables, roles: &Roles, p: Core, t: Picos) -> Asked
                 requests += share.requests;
             }
             Role::Other(q) => {
-                let n = q.number();
+                let n = usize::from(q);
                 let mut sum = others[n];
                 sum += other_share(&tasks[k], q, t);
                 others[n] = sum;

@@ -45,7 +45,7 @@ fn role_of(x: &Task, place: Option<Core>, before: bool, own: &Task, p: Core) -> 
     let Some(q) = place else {
         return Role::Aside;
     };
-    if q.number() != p.number() {
+    if q != p {
         Role::Other(q)
     } else if before && x.partition == own.partition {
         Role::Ahead

@@ -31,7 +31,7 @@ fn window<B: Arbiter>(
             let Some(time) = response(tables, placement, sharing, i, arbiter) else {
                 return Picos::NONE;
             };
-            largest = largest.greater(time);
+            largest = largest.max(time);
         }
     }
     largest

@@ -2,6 +2,7 @@
 use Rattle.std.specs.Prelude.{◌≡◌, ℕ, ◌^◌, ◌<◌, ◌≤◌, Bool, not, ◌&&◌, ◌||◌, ◌==◌, nat_lt, slice_index_or}
 use Rattle.arbiter.specs.declared.question.Question.{Question}
 use Rattle.arbiter.specs.declared.question.Sharing.{Sharing}
+use Rattle.terms.specs.Units.{amount}
 
 -- whether a and b are the pair of cores p and q, in either order
 abbrev pub pair : ℕ → ℕ → ℕ → ℕ → Bool
@@ -30,7 +31,7 @@ joined s a b = record {
 
 -- the count of the others on core k
 abbrev pub count : Question → ℕ → ℕ
-count q k = (slice_index_or q.others k (record { 0 = 0 })).0
+count q k = (slice_index_or q.others k (amount 0)).0
 
 -- x asks for no more than y: of the same core under the same sharing, with t and no count larger
 pub record NoMore (x y : Question) : Type 0 where

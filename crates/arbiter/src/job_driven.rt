@@ -58,10 +58,10 @@ impl Arbiter for JobDriven {
     ghost past = { Prim.search rules };
 
     fn answer(&self, q: &Question) -> Picos {
-        let core = q.core.number();
+        let core = usize::from(q.core);
         if core >= self.banks.cores || q.beyond() {
             return Question::ceiling();
         }
-        self.wait(q, core).lesser(Question::ceiling())
+        self.wait(q, core).min(Question::ceiling())
     }
 }

@@ -32,6 +32,6 @@ impl<P: Arbiter, Q: Arbiter> Arbiter for Lesser<P, Q> {
     ghost past = { Prim.search rules };
 
     fn answer(&self, q: &Question) -> Picos {
-        self.first.answer(q).lesser(self.second.answer(q))
+        self.first.answer(q).min(self.second.answer(q))
     }
 }

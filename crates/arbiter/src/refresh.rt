@@ -66,6 +66,6 @@ impl<P: Arbiter> Arbiter for Refresh<P> {
         if q.beyond() {
             return Question::ceiling();
         }
-        (self.below.answer(q) + self.added(q.t)).lesser(Question::ceiling())
+        (self.below.answer(q) + self.added(q.t)).min(Question::ceiling())
     }
 }

@@ -173,7 +173,7 @@ pub(crate) fn ask<B: Arbiter>(
     answers: &mut Answers,
     arbiter: &B,
 ) -> Option<()> {
-    let core = Core::of_number(script.byte()? as usize)?;
+    let core = Core::try_from(usize::from(script.byte()?)).ok()?;
     let sharing = sharing_by(script.byte()?);
     let [t, own, c0, c1, c2, c3] = script.numbers::<6>()?;
     let question = Asked {

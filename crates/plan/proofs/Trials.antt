@@ -3,7 +3,7 @@ use Rattle.std.proofs.Common.{◌≡◌, ℕ, Bool, true, false, cond, ltb, List
 use Rattle.std.proofs.lemmas.List.{set-set, set-get_or}
 use Rattle.terms.specs.Cores.{numbered}
 use Rattle.terms.specs.declared.cores.Core.{Core}
-use Rattle.terms.specs.declared.numbers.Picos.{Picos}
+use Rattle.terms.specs.Units.{Picos}
 use Rattle.terms.specs.declared.refusal.Refusal.{Refusal}
 use Rattle.terms.specs.declared.refusal.Refusal.TheVariants.{Late}
 use Rattle.arbiter.specs.declared.question.Question.{Question}

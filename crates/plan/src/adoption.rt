@@ -25,12 +25,7 @@ fn is_known(entry: u8, cores: usize) -> bool
 fn first_unknown(entries: &[u8], cores: usize) -> Option<usize>
     ensures { result ≡ first_out 0 (map (names_core cores) entries.now) }
 {
-    for (i, entry) in entries.iter().enumerate() {
-        if !is_known(*entry, cores) {
-            return Some(i);
-        }
-    }
-    None
+    entries.iter().position(|entry| !is_known(*entry, cores))
 }
 
 /// The placement that entries say, one for each partition.
@@ -40,7 +35,7 @@ fn placement_of(entries: &[u8]) -> Placement
 {
     let mut next = Placement::unplaced();
     for (i, entry) in entries.iter().enumerate() {
-        next.put(i, Core::of_number(*entry as usize));
+        next.put(i, Core::try_from(usize::from(*entry)).ok());
     }
     next
 }

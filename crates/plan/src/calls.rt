@@ -69,7 +69,7 @@ impl Plan {
             return Err(Refusal::NoCore { core });
         }
         let mut next = self.placement;
-        next.put(partition, Core::of_number(core));
+        next.put(partition, Some(Core::try_from(core)?));
         Ok(next)
     }
 

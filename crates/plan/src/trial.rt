@@ -54,7 +54,7 @@ impl Plan {
             partition,
             former,
         };
-        guard.placement.put(partition, Core::of_number(core));
+        guard.placement.put(partition, Core::try_from(core).ok());
         if let Some(task) = first_late(tables, guard.placement, arbiter) {
             return Err(Refusal::Late { task });
         }

@@ -2,7 +2,7 @@
 use Rattle.std.proofs.Common.{◌≡◌, ℕ, ◌<◌, ◌≤◌, Some, sym, subst, arith}
 use Rattle.terms.specs.Cores.{number_of}
 use Rattle.terms.specs.declared.cores.Core.{Core}
-use Rattle.terms.specs.declared.numbers.Picos.{Picos}
+use Rattle.terms.specs.Units.{amount, Picos}
 use Rattle.arbiter.specs.declared.question.Question.{Question}
 use Rattle.tables.specs.Ranges.{execution_on}
 use Rattle.analysis.specs.Demand.{State, task, demand, limit, place}
@@ -21,7 +21,7 @@ module _ (bound : Question → ℕ) (s : State) (i : ℕ) (p : Core) where
     pub found : (r : Picos) → r.0 ≡ t → demand s bound i p t ≡ t → t ≤ limit s i → TimeIs bound s i (Some r)
     found r e fixed within =
         subst (λ o. TellsPlaced (demand_on bound s i) (limit s i) o (Some r)) (sym at)
-        (subst (λ n. TellsPlaced (demand_on bound s i) (limit s i) (Some p) (Some (record { 0 = n }))) (sym e) (under_found (demand_on bound s i p) (limit s i) t u fixed within))
+        (subst (λ n. TellsPlaced (demand_on bound s i) (limit s i) (Some p) (Some (amount n))) (sym e) (under_found (demand_on bound s i p) (limit s i) t u fixed within))
 
     pub found_in_time : demand s bound i p t ≡ t → t ≤ limit s i → InTime bound s i
     found_in_time fixed within =

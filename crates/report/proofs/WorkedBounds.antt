@@ -17,6 +17,7 @@ use Rattle.arbiter.specs.Rising.{request_rises, job_rises}
 use Rattle.analysis.proofs.Rise.{Rises}
 use Rattle.report.specs.Checked.{pile_bound}
 use Rattle.report.specs.Worked.{UnderOurs, RefreshAdds}
+use Rattle.terms.specs.Units.{amount}
 
 -- the bounds on n cores with the wait l between banks
 module _ (n l : ℕ) where
@@ -66,14 +67,14 @@ pub our_piles : (n : ℕ) → 1 ≤ n → n ≤ 4 → (a : Lesser RequestDriven 
 our_piles n some four =
     let banks : Banks = record {
       cores = n;
-      l = record { 0 = 48750 };
-      conflict = record { 0 = 60000 };
+      l = amount 48750;
+      conflict = amount 60000;
       some = some;
       four = four;
       short = lit≤ tt;
       brief = lit≤ tt;
     } in (
-      record { first = record { banks = banks; reorder = record { 0 = 5000 }; quick = lit≤ tt }; second = record { banks = banks } },
+      record { first = record { banks = banks; reorder = amount 5000; quick = lit≤ tt }; second = record { banks = banks } },
       record { first = (refl, refl, refl); reorder = refl; second = (refl, refl, refl) },
     )
 

@@ -1,7 +1,7 @@
 -- What the listing of a plan is, and the text that the program checker prints. Assumes nothing.
 use Rattle.std.specs.Prelude.{◌≡◌, ℕ, ◌<◌, min, ◌⊎◌, List, length, Ok, Err, Result, slice_index_or}
 use Rattle.terms.specs.Refusals.{told}
-use Rattle.terms.specs.declared.numbers.Picos.{Picos}
+use Rattle.terms.specs.Units.{Picos}
 use Rattle.terms.specs.declared.refusal.Refusal.{Refusal}
 use Rattle.arbiter.specs.Bounds.{request_bound, job_bound}
 use Rattle.arbiter.specs.Station.{OurPile}

@@ -1,6 +1,6 @@
 -- The times that a list of them holds. Assumes nothing.
 use Rattle.std.specs.Prelude.{List, take}
-use Rattle.terms.specs.declared.numbers.Picos.{Picos}
+use Rattle.terms.specs.Units.{Picos}
 use Rattle.report.specs.declared.times.Times.{Times}
 
 -- the entries that count

@@ -2,7 +2,7 @@
 -- Times are picoseconds. Assumes nothing.
 use Rattle.std.specs.Prelude.{◌≡◌, ℕ, ◌+◌, ◌*◌, ◌^◌, ◌≤◌, Bool, true, false, [], ◌∷◌, replicate, Some, None, Ok, Err, Option}
 use Rattle.terms.specs.declared.cores.Core.TheVariants.{Zero, One}
-use Rattle.terms.specs.declared.numbers.Picos.{Picos}
+use Rattle.terms.specs.Units.{Picos}
 use Rattle.arbiter.specs.Bounds.{request_bound, job_bound}
 use Rattle.arbiter.specs.Refreshes.{refreshed}
 use Rattle.arbiter.specs.Station.{OurPile}

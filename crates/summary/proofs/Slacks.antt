@@ -1,6 +1,6 @@
 -- The least slack, one more task at a time. Assumes nothing.
 use Rattle.std.proofs.Common.{◌≡◌, ℕ, ◌+◌, ◌<◌, ◌≤◌, true, false, List, IfSome, Some, None, Option, arith, below_more, ltb-false, ltb-true}
-use Rattle.terms.specs.declared.numbers.Picos.{Picos}
+use Rattle.terms.specs.Units.{Picos}
 use Rattle.summary.specs.Slack.{slack, tighter, Timed, Least}
 
 module _ (times limits : List Picos) (n : ℕ) where

@@ -1,6 +1,6 @@
 -- The slack of tasks, and the least of them. A task without a time has the time 0. Assumes nothing.
 use Rattle.std.specs.Prelude.{ℕ, ◌-◌, ◌<◌, ◌≤◌, Bool, true, List, Some, None, Option, nat_lt, slice_index_or}
-use Rattle.terms.specs.declared.numbers.Picos.{Picos}
+use Rattle.terms.specs.Units.{Picos}
 use Rattle.tables.specs.Ranges.{no_time}
 
 module _ (times limits : List Picos) where

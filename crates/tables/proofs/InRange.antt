@@ -1,8 +1,7 @@
 -- What is in range in a sound row. Assumes nothing.
 use Rattle.std.proofs.Common.{◌≡◌, ℕ, zero, suc, ◌^◌, ◌<◌, ◌≤◌, Bool, true, not, ◌&&◌, leb, List, [], ◌∷◌, get_or, None, Option, arith}
 use Rattle.std.proofs.lemmas.Bool.{leb-true, leb-false, and_parts, not-false}
-use Rattle.terms.specs.declared.numbers.Picos.{Picos}
-use Rattle.terms.specs.declared.numbers.Requests.{Requests}
+use Rattle.terms.specs.Units.{Picos, Requests}
 use Rattle.terms.specs.declared.refusal.Refusal.{Refusal}
 use Rattle.terms.specs.declared.refusal.Refusal.TheVariants.{FieldRange, RowPartition, PartitionFull}
 use Rattle.tables.specs.declared.header.Header.{Header}

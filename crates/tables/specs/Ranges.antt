@@ -1,16 +1,15 @@
 -- What is in range in the tables of a computer. Times are picoseconds. Assumes nothing.
 use Rattle.std.specs.Prelude.{ℕ, ◌^◌, ◌<◌, ◌≤◌, List, [], length, get_or, slice_index_or}
-use Rattle.terms.specs.declared.numbers.Picos.{Picos}
-use Rattle.terms.specs.declared.numbers.Requests.{Requests}
+use Rattle.terms.specs.Units.{amount, Picos, Requests}
 use Rattle.tables.specs.declared.model.Partition.{Partition}
 use Rattle.tables.specs.declared.model.Task.{Task}
 
 -- what is read past the end of a list
 abbrev pub no_time : Picos
-no_time = record { 0 = 0 }
+no_time = amount 0
 
 abbrev pub no_requests : Requests
-no_requests = record { 0 = 0 }
+no_requests = amount 0
 
 abbrev pub no_partition : Partition
 no_partition = record { period = no_time }

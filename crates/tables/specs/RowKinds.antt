@@ -1,7 +1,6 @@
 -- The three kinds of row. Assumes nothing.
 use Rattle.std.specs.Prelude.{ℕ, ◌+◌, ◌-◌, Bool, true, cond, not, ◌&&◌, ◌||◌, List, [], ◌∷◌, ◌++◌, map, length, None, ◌==◌, nat_le, nat_lt, slice_index_or}
-use Rattle.terms.specs.declared.numbers.Picos.{Picos}
-use Rattle.terms.specs.declared.numbers.Requests.{Requests}
+use Rattle.terms.specs.Units.{amount, Picos, Requests}
 use Rattle.terms.specs.declared.refusal.Refusal.TheVariants.{FieldRange, RowPartition, LinkOrder, PartitionFull}
 use Rattle.tables.specs.declared.model.Partition.{Partition}
 use Rattle.tables.specs.declared.model.Task.{Task}
@@ -11,10 +10,10 @@ use Rattle.tables.specs.Handed.{is_partition_row, is_task_row, is_link_row}
 use Rattle.tables.specs.Kinds.{Kind, good_name, all_pass, within, when}
 
 abbrev pub as_picos : ℕ → Picos
-as_picos n = record { 0 = n }
+as_picos n = amount n
 
 abbrev pub as_requests : ℕ → Requests
-as_requests n = record { 0 = n }
+as_requests n = amount n
 
 abbrev pub partition_widths : List ℕ
 partition_widths = 44 ∷ 4 ∷ []

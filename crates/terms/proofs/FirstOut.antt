@@ -1,14 +1,26 @@
--- The first test that fails, one test further at a time. Assumes nothing.
-use Rattle.std.proofs.Common.{◌≡◌, ℕ, ◌+◌, ◌<◌, ◌≤◌, Bool, true, false, List, ◌∷◌, length, get_or, drop, Some, None, ap, ◌∙◌}
-use Rattle.std.proofs.lemmas.List.{drop_more, drop_all}
+-- The first test that fails is the library's first place. Assumes nothing.
+use Rattle.std.proofs.Common.{◌≡◌, ℕ, ◌+◌, Bool, true, false, not, List, [], ◌∷◌, map, Option, Some, cond, refl, sym, ◌∙◌}
+use Rattle.std.proofs.lemmas.Iterator.Adapters.{position_from-zero}
+use Rattle.std.specs.List.{position, position_from}
 use Rattle.terms.specs.Checks.{first_out}
 
-module _ (tests : List Bool) (k : ℕ) where
-  pub passes : k < length tests → get_or tests k false ≡ true → first_out k (drop k tests) ≡ first_out (k + 1) (drop (k + 1) tests)
-  passes within e = ap (first_out k) (drop_more tests k false within) ∙ ap (λ b. first_out k (b ∷ drop (k + 1) tests)) e
+one_on : (x : Bool) (k : ℕ) (rest : List Bool) (r : Option ℕ) → first_out (k + 1) rest ≡ r → first_out k (x ∷ rest) ≡ cond (not x) (Some k) r
+one_on true k rest r e = e
+one_on false k rest r e = refl
 
-  pub stops : k < length tests → get_or tests k false ≡ false → first_out k (drop k tests) ≡ Some k
-  stops within e = ap (first_out k) (drop_more tests k false within) ∙ ap (λ b. first_out k (b ∷ drop (k + 1) tests)) e
+-- counted on from k
+tested_from : {X : Type 0} → (f : X → Bool) (k : ℕ) (xs : List X) → first_out k (map f xs) ≡ position_from (λ x. not (f x)) k xs
+tested_from f k [] = refl
+tested_from f k (x ∷ xs) = one_on (f x) k (map f xs) _ (tested_from f (k + 1) xs)
 
-  pub ends : length tests ≤ k → first_out k (drop k tests) ≡ None
-  ends h = ap (first_out k) (drop_all k tests h)
+failed_from : (k : ℕ) (tests : List Bool) → first_out k tests ≡ position_from not k tests
+failed_from k [] = refl
+failed_from k (x ∷ xs) = one_on x k xs _ (failed_from (k + 1) xs)
+
+-- the place of the first that fails a test
+pub first_tested : {X : Type 0} → (f : X → Bool) (xs : List X) → position (λ x. not (f x)) xs ≡ first_out 0 (map f xs)
+first_tested f xs = position_from-zero (λ x. not (f x)) xs ∙ sym (tested_from f 0 xs)
+
+-- the place of the first test that failed
+pub first_failed : (tests : List Bool) → position not tests ≡ first_out 0 tests
+first_failed tests = position_from-zero not tests ∙ sym (failed_from 0 tests)

@@ -1,2 +1,3 @@
 pub mod FirstOut
+pub mod Numbering
 pub mod Sums

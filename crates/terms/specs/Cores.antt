@@ -1,7 +1,9 @@
 -- The cores and their numbers. Assumes nothing.
-use Rattle.std.specs.Prelude.{ℕ, zero, suc, Some, None, Option}
+use Rattle.std.specs.Prelude.{◌≡◌, ℕ, zero, suc, Some, None, Option, Result, MatchResult}
 use Rattle.terms.specs.declared.cores.Core.{Core}
 use Rattle.terms.specs.declared.cores.Core.TheVariants.{Zero, One, Two, Three}
+use Rattle.terms.specs.declared.refusal.Refusal.{Refusal}
+use Rattle.terms.specs.declared.refusal.Refusal.TheVariants.{NoCore}
 
 -- the number of a core
 abbrev pub number_of : Core → ℕ
@@ -17,3 +19,7 @@ numbered (suc zero) = Some One
 numbered (suc (suc zero)) = Some Two
 numbered (suc (suc (suc zero))) = Some Three
 numbered (suc (suc (suc (suc n)))) = None
+
+-- the core of a number, or that there is none
+abbrev pub Numbered : ℕ → Result Core Refusal → Type 0
+Numbered n r = MatchResult r (λ core. numbered n ≡ Some core) (λ e. (numbered n ≡ None) × (e ≡ NoCore n))

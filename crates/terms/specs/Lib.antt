@@ -2,3 +2,4 @@ pub mod Checks
 pub mod Cores
 pub mod Refusals
 pub mod Sums
+pub mod Units

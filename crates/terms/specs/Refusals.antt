@@ -1,5 +1,5 @@
 -- The number of each refusal, and what it tells. Assumes nothing.
-use Rattle.std.specs.Prelude.{ℕ}
+use Rattle.std.specs.Prelude.{ℕ, List, ◌++◌, decimal, codes}
 use Rattle.terms.specs.declared.refusal.Refusal.{Refusal}
 use Rattle.terms.specs.declared.refusal.Refusal.TheVariants.{Incomplete, FieldRange, BadName, RowPartition, LinkOrder, BytesAfterEnd, PartitionFull, Setting, NoPartition, NoCore, NoCoreAt, NoTask, NotPlaced, AllocationLength, NumberRange, Late, Placed, ShortBuffer}
 
@@ -23,3 +23,7 @@ told (NumberRange position) = (14, position)
 told (Late task) = (15, task)
 told (Placed partition) = (16, partition)
 told (ShortBuffer needed) = (17, needed)
+
+-- a refusal as it is printed
+abbrev pub refused : Refusal → List ℕ
+refused e = codes "refused " ++ decimal (told e).0 ++ codes " at " ++ decimal (told e).1

@@ -6,17 +6,12 @@ ghost use Rattle.terms.specs.Checks.{within, first_out};
 pub fn is_within(least: u64, most: u64, x: u64) -> bool
     ensures { result ≡ within least most x }
 {
-    least <= x && x <= most
+    (least..=most).contains(&x)
 }
 
 /// The place of the first test that failed.
 pub fn first_failed(tests: &[bool]) -> Option<usize>
     ensures { result ≡ first_out 0 tests.now }
 {
-    for (place, passed) in tests.iter().enumerate() {
-        if !*passed {
-            return Some(place);
-        }
-    }
-    None
+    tests.iter().position(|passed| !*passed)
 }

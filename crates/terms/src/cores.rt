@@ -1,6 +1,8 @@
 //! The cores of the computer.
 ghost use Rattle.std.specs.Prelude.{◌≡◌, ◌<◌};
-ghost use Rattle.terms.specs.Cores.{number_of, numbered};
+ghost use Rattle.terms.specs.Cores.{number_of, Numbered};
+
+use super::refusal::Refusal;
 
 /// One of the four cores that a computer has at most, numbered from 0.
 #[derive(Clone, Copy, Debug, PartialEq, Eq)]
@@ -14,30 +16,30 @@ pub enum Core {
 impl Core {
     /// How many cores a computer has at most.
     pub const MOST: usize = 4;
+}
 
-    /// The core of this number, if there is one.
-    pub fn of_number(n: usize) -> Option<Core>
-        ensures { result ≡ numbered n }
-    {
+impl TryFrom<usize> for Core {
+    type Error = Refusal;
+
+    // the core of this number; refused where there is none
+    ghost try_from_gives = { Numbered };
+
+    fn try_from(n: usize) -> Result<Core, Refusal> {
         match n {
-            0 => Some(Core::Zero),
-            1 => Some(Core::One),
-            2 => Some(Core::Two),
-            3 => Some(Core::Three),
-            _ => None,
+            0 => Ok(Core::Zero),
+            1 => Ok(Core::One),
+            2 => Ok(Core::Two),
+            3 => Ok(Core::Three),
+            core => Err(Refusal::NoCore { core }),
         }
     }
+}
 
-    /// The number of the core.
-    pub fn number(self) -> usize
-        ensures is { result ≡ number_of self }
-        ensures small { result < 4 }
-    {
-        match self {
-            Core::Zero => 0,
-            Core::One => 1,
-            Core::Two => 2,
-            Core::Three => 3,
-        }
+impl From<Core> for usize {
+    // the number of the core
+    ghost from_gives = { λ core n. (n ≡ number_of core) × (n < 4) };
+
+    fn from(core: Core) -> usize {
+        core as usize
     }
 }

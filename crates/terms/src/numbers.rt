@@ -1,165 +1,116 @@
 //! Times, counts of requests, and the delay per request that turns a count into a time.
 ghost use Rattle.std.specs.Prelude.{◌≡◌, ◌+◌, ◌*◌, ◌^◌, ◌<◌, min, if◌then◌else◌, nat_lt};
 
+use std::marker::PhantomData;
 use std::ops::{Add, AddAssign};
 
+/// So much of a unit `U`: a number that only numbers of the same unit are added to.
+#[derive(Clone, Copy, Debug, PartialEq, Eq, PartialOrd, Ord)]
+pub struct Amount<U>(u64, PhantomData<U>);
+
+/// The unit of times.
+#[derive(Clone, Copy, Debug, PartialEq, Eq, PartialOrd, Ord)]
+pub struct Picosecond;
+
+/// The unit of counts of requests.
+#[derive(Clone, Copy, Debug, PartialEq, Eq, PartialOrd, Ord)]
+pub struct Request;
+
+/// The unit of delays.
+#[derive(Clone, Copy, Debug, PartialEq, Eq, PartialOrd, Ord)]
+pub struct PicosecondPerRequest;
+
 /// A time in picoseconds.
-#[derive(Clone, Copy, Debug, PartialEq, Eq)]
-pub struct Picos(u64);
+pub type Picos = Amount<Picosecond>;
 
 /// A count of requests to the memory.
-#[derive(Clone, Copy, Debug, PartialEq, Eq)]
-pub struct Requests(u64);
+pub type Requests = Amount<Request>;
 
 /// The longest that one request waits, in picoseconds.
-#[derive(Clone, Copy, Debug, PartialEq, Eq)]
-pub struct DelayPerRequest(u64);
+pub type DelayPerRequest = Amount<PicosecondPerRequest>;
 
-impl Picos {
-    /// No time.
-    pub const NONE: Picos = Picos(0);
-
-    /// So many picoseconds.
-    pub fn new(n: u64) -> Picos
+impl<U> Amount<U> {
+    /// So many of the unit.
+    pub fn new(n: u64) -> Amount<U>
         ensures { result.0 ≡ n }
     {
-        Picos(n)
+        Amount(n, PhantomData)
     }
+}
 
-    /// The time as a number.
+impl<U: Copy> Amount<U> {
+    /// How many of the unit.
     pub fn get(self) -> u64
         ensures { result ≡ self.0 }
     {
         self.0
     }
 
-    /// This time, so many times.
-    pub fn times(self, n: u64) -> Picos
+    /// This amount, so many times.
+    pub fn times(self, n: u64) -> Amount<U>
         requires { n * self.0 < 2 ^ 64 }
         ensures { result.0 ≡ n * self.0 }
     {
-        Picos(n * self.0)
+        Amount::new(n * self.0)
     }
+}
+
+impl Picos {
+    /// No time.
+    // one constant for each unit: of a constant under `U` the check does not know the value
+    pub const NONE: Picos = Amount(0, PhantomData);
 
     /// The lesser of two times.
     pub fn lesser(self, other: Picos) -> Picos
         ensures { result.0 ≡ min self.0 other.0 }
     {
-        if self.0 < other.0 { self } else { other }
+        self.min(other)
     }
 
     /// The greater of two times.
     pub fn greater(self, other: Picos) -> Picos
         ensures { result ≡ (if nat_lt self.0 other.0 then other else self) }
     {
-        if self.0 < other.0 { other } else { self }
+        self.max(other)
     }
 }
 
 impl Requests {
     /// No request.
-    pub const NONE: Requests = Requests(0);
-
-    /// So many requests.
-    pub fn new(n: u64) -> Requests
-        ensures { result.0 ≡ n }
-    {
-        Requests(n)
-    }
-
-    /// This count, so many times.
-    pub fn times(self, n: u64) -> Requests
-        requires { n * self.0 < 2 ^ 64 }
-        ensures { result.0 ≡ n * self.0 }
-    {
-        Requests(n * self.0)
-    }
-
-    /// The count as a number.
-    pub fn get(self) -> u64
-        ensures { result ≡ self.0 }
-    {
-        self.0
-    }
+    pub const NONE: Requests = Amount(0, PhantomData);
 }
 
 impl DelayPerRequest {
     /// No delay.
-    pub const NONE: DelayPerRequest = DelayPerRequest(0);
-
-    /// So many picoseconds for each request.
-    pub fn new(n: u64) -> DelayPerRequest
-        ensures { result.0 ≡ n }
-    {
-        DelayPerRequest(n)
-    }
-
-    /// The delay as a number.
-    pub fn get(self) -> u64
-        ensures { result ≡ self.0 }
-    {
-        self.0
-    }
+    pub const NONE: DelayPerRequest = Amount(0, PhantomData);
 
     /// What this delay comes to over a count of requests: the only way from a count to a time.
     pub fn over(self, count: Requests) -> Picos
         requires { count.0 * self.0 < 2 ^ 64 }
         ensures { result.0 ≡ count.0 * self.0 }
     {
-        Picos(count.0 * self.0)
+        Picos::new(count.0 * self.0)
     }
 }
 
-impl Add<Picos> for Picos {
-    type Output = Picos;
+impl<U: Copy> Add<Amount<U>> for Amount<U> {
+    type Output = Amount<U>;
 
     ghost can_add = { λ a b. a.0 + b.0 < 2 ^ 64 };
 
     ghost add_gives = { λ a b r. r.0 ≡ a.0 + b.0 };
 
-    fn add(self, rhs: Picos) -> Picos {
-        Picos(self.0 + rhs.0)
+    fn add(self, rhs: Amount<U>) -> Amount<U> {
+        Amount::new(self.0 + rhs.0)
     }
 }
 
-impl AddAssign<Picos> for Picos {
+impl<U: Copy> AddAssign<Amount<U>> for Amount<U> {
     ghost can_add_assign = { λ a b. a.0 + b.0 < 2 ^ 64 };
 
     ghost add_assign_gives = { λ a b r. r.0 ≡ a.0 + b.0 };
 
-    fn add_assign(&mut self, rhs: Picos) {
-        self.0 += rhs.0;
-    }
-}
-
-impl Add<DelayPerRequest> for DelayPerRequest {
-    type Output = DelayPerRequest;
-
-    ghost can_add = { λ a b. a.0 + b.0 < 2 ^ 64 };
-
-    ghost add_gives = { λ a b r. r.0 ≡ a.0 + b.0 };
-
-    fn add(self, rhs: DelayPerRequest) -> DelayPerRequest {
-        DelayPerRequest(self.0 + rhs.0)
-    }
-}
-
-impl AddAssign<DelayPerRequest> for DelayPerRequest {
-    ghost can_add_assign = { λ a b. a.0 + b.0 < 2 ^ 64 };
-
-    ghost add_assign_gives = { λ a b r. r.0 ≡ a.0 + b.0 };
-
-    fn add_assign(&mut self, rhs: DelayPerRequest) {
-        self.0 += rhs.0;
-    }
-}
-
-impl AddAssign<Requests> for Requests {
-    ghost can_add_assign = { λ a b. a.0 + b.0 < 2 ^ 64 };
-
-    ghost add_assign_gives = { λ a b r. r.0 ≡ a.0 + b.0 };
-
-    fn add_assign(&mut self, rhs: Requests) {
+    fn add_assign(&mut self, rhs: Amount<U>) {
         self.0 += rhs.0;
     }
 }

@@ -1,6 +1,9 @@
 //! Why a call is refused: one list for the whole product.
-ghost use Rattle.std.specs.Prelude.{◌≡◌};
-ghost use Rattle.terms.specs.Refusals.{told};
+ghost use Rattle.std.specs.Prelude.{◌≡◌, Some};
+ghost use Rattle.terms.specs.Refusals.{told, refused};
+
+use std::error::Error;
+use std::fmt;
 
 /// Why a call is refused, with what the refusal tells. Each has a number.
 #[derive(Clone, Copy, Debug, PartialEq, Eq)]
@@ -96,3 +99,13 @@ impl Refusal {
         }
     }
 }
+
+impl fmt::Display for Refusal {
+    ghost output = { λ refusal. Some (refused refusal) };
+
+    fn fmt<W: fmt::Write>(&self, f: &mut fmt::Formatter<W>) -> fmt::Result {
+        write!(f, "refused {} at {}", self.number(), self.tells())
+    }
+}
+
+impl Error for Refusal {}

@@ -34,12 +34,12 @@ impl Arbiter for RequestDriven {
     ghost past = { first_of (Prim.search rules, Prim.grind (arith, Self.row.coded.inj)) };
 
     fn answer(&self, q: &Question) -> Picos {
-        let core = q.core.number();
+        let core = usize::from(q.core);
         if core >= self.banks.cores || q.beyond() {
             return Question::ceiling();
         }
         self.wait(&q.sharing, core)
             .over(q.own)
-            .lesser(Question::ceiling())
+            .min(Question::ceiling())
     }
 }

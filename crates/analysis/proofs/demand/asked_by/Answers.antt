@@ -21,7 +21,7 @@ add_assign-requires-in-Ahead c = let few = c.tasks-tasks.ensures.sound.few in om
 pub add_assign-requires-in-Other : goal.add_assign-requires-in-Other
 add_assign-requires-in-Other c =
     let few = c.tasks-tasks.ensures.sound.few in
-    omega (arith, c.other_share.ensures.small, c.loop-k.invariant.each_few c.number-n.result c.number-n.ensures.small)
+    omega (arith, c.other_share.ensures.small, c.loop-k.invariant.each_few c.from-n.result c.from-n.ensures.1)
 
 pub loop-k-preserved : goal.loop-k-preserved
 loop-k-preserved c =
@@ -42,7 +42,7 @@ loop-k-preserved c =
           share.ensures.execution share.ensures.requests w.add_assign.ensures.after w.add_assign-in-Ahead.ensures.after share.ensures.small.0 share.ensures.small.1)
       | in-Other w ↦
           moved tasks roles p t (k + 1) _ _ _ _ _ _ w.execution-is w.requests-is w.others-is
-          (asking_other tasks roles p t k e r o inv w.in-Other.q w.other_share.result.0 w.number-n.result w.add_assign-in-Other.new.self w.in-Other.ensures w.number-n.ensures.is w.number-n.ensures.small
+          (asking_other tasks roles p t k e r o inv w.in-Other.q w.other_share.result.0 w.from-n.result w.add_assign-in-Other.new.self w.in-Other.ensures w.from-n.ensures.0 w.from-n.ensures.1
           w.other_share.ensures.is w.add_assign-in-Other.ensures.after w.other_share.ensures.small)
       | in-Aside w ↦ moved tasks roles p t (k + 1) _ _ _ _ _ _ w.execution-is w.requests-is w.others-is (asking_aside tasks roles p t k e r o inv w.in-Aside.ensures)
     ]

@@ -1,4 +1,5 @@
-use Rattle.std.proofs.Common.{◌≡◌, ℕ, length, sym, ap, ◌∙◌, subst, inl, arith}
+use Rattle.std.proofs.Common.{◌≡◌, ℕ, max, length, sym, ap, ◌∙◌, subst, inl, arith, rules}
+use Rattle.terms.specs.Units.{Picos}
 use Rattle.tables.specs.declared.model.Task.{Task}
 use Rattle.analysis.specs.Demand.{State, state}
 use Rattle.analysis.specs.Windows.{Largest}
@@ -19,7 +20,7 @@ loop-i-preserved g c =
     let here = ap (λ (x : Task). x.partition) c.task_of.ensures.is in
     elim c.if-task_of-partition.branch [
       | then-task_of-partition+in-Some w ↦
-          largest_more bound s p i v w.in-Some.time c.loop-i.invariant (sym here ∙ w.if-task_of-partition.true) w.in-Some.ensures c.if-task_of-partition.largest (w.largest-is ∙ w.greater-largest.ensures)
+          largest_more bound s p i v w.in-Some.time c.loop-i.invariant (sym here ∙ w.if-task_of-partition.true) w.in-Some.ensures c.if-task_of-partition.largest (ap (λ (x : Picos). x.0) w.largest-is ∙ (let m : w.max-largest.result.0 ≡ max v.0 w.in-Some.time.0 = search rules in m))
       | else-task_of-partition w ↦
           largest_passed bound s p i v c.if-task_of-partition.largest c.loop-i.invariant w.largest-is (λ e. w.if-task_of-partition.false (here ∙ e))
     ]

@@ -3,7 +3,7 @@ use native.Mathlib.Nat.{min-eq_left}
 use Rattle.std.proofs.lemmas.Result.{err_from_is_err_and}
 use Rattle.arbiter.specs.Station.{OurPile}
 use Rattle.terms.specs.Checks.{within, first_out}
-use Rattle.terms.specs.declared.numbers.Picos.{Picos}
+use Rattle.terms.specs.Units.{Picos}
 use Rattle.terms.specs.declared.refusal.Refusal.{Refusal}
 use Rattle.tables.proofs.InRange.{counts}
 use Rattle.tables.specs.Ranges.{no_time}

@@ -1,12 +1,10 @@
-use Rattle.std.proofs.Common.{sym, ◌∙◌}
-use Rattle.terms.proofs.FirstOut.{passes, stops, ends}
+use Rattle.std.proofs.Common.{not, rules, tests, ◌∙◌}
+use Rattle.std.proofs.lemmas.Iterator.{YieldsList-from_slice}
+use Rattle.std.proofs.lemmas.Iterator.Search.{position_from_yields_List}
+use Rattle.terms.proofs.FirstOut.{first_failed}
 use Rattle.terms.proofs.checks.first_failed.Goals as goal
 
-pub loop-place-preserved : goal.loop-place-preserved
-loop-place-preserved c = c.loop-place.invariant ∙ passes c.args.tests.now c.loop-place.place c.loop-place-test.true c.if-not-passed.false
-
-pub returns-then-not-passed : goal.returns-then-not-passed
-returns-then-not-passed c = sym (c.loop-place.invariant ∙ stops c.args.tests.now c.loop-place.place c.loop-place-test.true c.if-not-passed.true)
-
 pub returns : goal.returns
-returns c = sym (c.loop-place.invariant ∙ ends c.args.tests.now c.loop-place.place c.loop-place-test.false)
+returns c =
+    position_from_yields_List not _ _ _ c.position.ensures.ran (YieldsList-from_slice c.args.tests.now cc) (λ x b q k. search (rules, tests))
+    ∙ first_failed c.args.tests.now

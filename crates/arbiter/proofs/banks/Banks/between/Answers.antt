@@ -1,6 +1,6 @@
 use Rattle.std.proofs.Common.{◌≡◌, ◌*◌, sym, ap, ◌∙◌, arith}
 use Rattle.arbiter.specs.Questions.{count}
-use Rattle.terms.specs.declared.numbers.Picos.{Picos}
+use Rattle.terms.specs.Units.{Picos}
 use Rattle.arbiter.proofs.Bounds.{partial_le, product_le}
 use Rattle.terms.proofs.Sums.{sum_took, sum_left}
 use Rattle.arbiter.proofs.banks.Banks.between.Goals as goal

@@ -1,6 +1,6 @@
 use Rattle.std.proofs.Common.{sym, refl, ap, ◌∙◌, arith}
 use Rattle.arbiter.specs.Questions.{apart}
-use Rattle.terms.specs.declared.numbers.DelayPerRequest.{DelayPerRequest}
+use Rattle.terms.specs.Units.{DelayPerRequest}
 use Rattle.terms.proofs.Sums.{sum_took, sum_left, sum_le}
 use Rattle.arbiter.proofs.banks.Banks.inter.Goals as goal
 use Rattle.arbiter.proofs.banks.Banks.inter.Goals.{then-apart, else-apart}

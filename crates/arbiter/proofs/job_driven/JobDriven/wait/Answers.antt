@@ -1,7 +1,7 @@
 use Rattle.std.proofs.Common.{◌≡◌, ◌+◌, ◌*◌, sym, ap, ◌∙◌, arith}
 use Rattle.arbiter.specs.Questions.{count}
 use Rattle.arbiter.specs.Banks.{between}
-use Rattle.terms.specs.declared.numbers.Picos.{Picos}
+use Rattle.terms.specs.Units.{Picos}
 use Rattle.arbiter.proofs.Bounds.{product_le, between_le, rows_le}
 use Rattle.terms.proofs.Sums.{sum_took, sum_left, sum_all}
 use Rattle.arbiter.proofs.job_driven.JobDriven.wait.Goals as goal

@@ -1,5 +1,5 @@
 use Rattle.std.proofs.Common.{◌+◌, sym, ap, ◌∙◌, arith}
-use Rattle.terms.specs.declared.numbers.DelayPerRequest.{DelayPerRequest}
+use Rattle.terms.specs.Units.{DelayPerRequest}
 use Rattle.arbiter.proofs.Bounds.{inter_le, conflicts_le}
 use Rattle.terms.proofs.Sums.{sum_took, sum_left, sum_all}
 use Rattle.arbiter.proofs.request_driven.RequestDriven.wait.Goals as goal

@@ -1,5 +1,6 @@
 use Rattle.std.proofs.Common.{◌≡◌, List, set, Option, ap, ◌∙◌}
 use Rattle.terms.specs.declared.cores.Core.{Core}
+use Rattle.terms.proofs.Numbering.{numbered_ok}
 use Rattle.tables.specs.Tabled.{tabled}
 use Rattle.plan.specs.Born.{state_of}
 use Rattle.plan.proofs.Retimings.{over}
@@ -11,14 +12,14 @@ use Rattle.plan.proofs.plan.Plan.tried.Goals.{After-put}
 -- what was examined: the copy of the tables, with the partition placed
 examined : (g : given.Over) (c : After-put g) → over (tabled c.tables-tables.result.now) c.put.new.self.cores ≡ tried (state_of c.args.self.now) c.args.partition c.args.core
 examined g c =
-    tried_on (state_of c.args.self.now) c.args.partition c.args.core (tabled c.tables-tables.result.now) c.put.new.self.cores c.of_number.result
-    (ap tabled c.tables-tables.ensures ∙ c.copy_from.ensures) c.put.ensures c.of_number.ensures
+    tried_on (state_of c.args.self.now) c.args.partition c.args.core (tabled c.tables-tables.result.now) c.put.new.self.cores c.ok.result
+    (ap tabled c.tables-tables.ensures ∙ c.copy_from.ensures) c.put.ensures (c.ok.ensures.value ∙ numbered_ok _ _ c.try_from.ensures)
 
 -- the guard has put the partition back
 restored : (g : given.Over) (c : After-put g) (after : List (Option Core)) → after ≡ set c.put.new.self.cores c.args.partition c.core_of-former.result → over (tabled c.args.self.now.tables) after ≡ state_of c.args.self.now
 restored g c after back =
     let own = c.args.self.now in
-    ap (λ q. over (tabled own.tables) q) (put_back own.placement.cores c.put.new.self.cores after c.args.partition c.of_number.result c.core_of-former.result c.put.ensures c.core_of-former.ensures back)
+    ap (λ q. over (tabled own.tables) q) (put_back own.placement.cores c.put.new.self.cores after c.args.partition c.ok.result c.core_of-former.result c.put.ensures c.core_of-former.ensures back)
 
 pub returns-in-Some-clause-trial : goal.returns-in-Some-clause-trial
 returns-in-Some-clause-trial g c =

@@ -7,6 +7,6 @@ pub over-requires : goal.over-requires
 over-requires c =
     let q = c.args.q.now in
     let s = small q (sym c.if-beyond.ensures) in
-    let short : c.wait.result.0 ≤ 2500000 = omega (arith, wait_le c.args.self.now q.sharing c.number-core.result) in
+    let short : c.wait.result.0 ≤ 2500000 = omega (arith, wait_le c.args.self.now q.sharing c.from-core.result) in
     let all = mul-le-mul s.own short in
     omega arith
