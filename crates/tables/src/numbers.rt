@@ -3,8 +3,10 @@ ghost use Rattle.std.specs.Prelude.{◌≡◌, length};
 
 use terms::numbers::{Picos, Requests};
 
+mod listed;
+
 /// A period, a deadline, and for each of four cores an execution time and a count of requests.
-#[derive(Clone, Copy)]
+#[derive(Clone, Copy, Debug, PartialEq, Eq)]
 pub struct Numbers {
     pub period: Picos,
     pub deadline: Picos,
