@@ -1,5 +1,5 @@
 //! Times, counts of requests, and the delay per request that turns a count into a time.
-ghost use Rattle.std.specs.Prelude.{◌≡◌, ◌+◌, ◌*◌, ◌^◌, ◌<◌, min, if◌then◌else◌, nat_lt};
+ghost use Rattle.std.specs.Prelude.{◌≡◌, ◌+◌, ◌*◌, ◌^◌, ◌<◌};
 
 use std::marker::PhantomData;
 use std::ops::{Add, AddAssign};
@@ -59,20 +59,6 @@ impl Picos {
     /// No time.
     // one constant for each unit: of a constant under `U` the check does not know the value
     pub const NONE: Picos = Amount(0, PhantomData);
-
-    /// The lesser of two times.
-    pub fn lesser(self, other: Picos) -> Picos
-        ensures { result.0 ≡ min self.0 other.0 }
-    {
-        self.min(other)
-    }
-
-    /// The greater of two times.
-    pub fn greater(self, other: Picos) -> Picos
-        ensures { result ≡ (if nat_lt self.0 other.0 then other else self) }
-    {
-        self.max(other)
-    }
 }
 
 impl Requests {
