@@ -14,38 +14,27 @@ use Rattle.arbiter.specs.declared.request_driven.RequestDriven.{RequestDriven}
 use Rattle.arbiter.specs.Counts.{count_small}
 use Rattle.terms.proofs.Sums.{sum_le}
 
--- one core's requests, at one delay
-pub product_le : (x : Question) (delay k : ℕ) → beyond x ≡ false → delay ≤ 100000 → k < 4 → count x k * delay ≤ 10 ^ 17
-product_le x delay k e short below = mul-le-mul (count_small x e k below) short
-
 pub inter_le : (b : Banks) (s : Sharing) (p : ℕ) → inter b s p ≤ 400000
 inter_le b s p =
     let most = sum_le (apart s p) (λ _. b.l.0) 100000 b.cores (λ _ _. b.short) in
     let four = b.four in
     omega arith
 
-pub conflicts_le : (b : Banks) (s : Sharing) (p k : ℕ) → sum_sharing k s p (λ q. b.conflict.0 + inter b s q) ≤ k * 500000
-conflicts_le b s p k = sum_le (shares s p) (λ q. b.conflict.0 + inter b s q) 500000 k (λ q _. let i = inter_le b s q in let brief = b.brief in omega arith)
-
 pub wait_le : (a : RequestDriven) (s : Sharing) (p : ℕ) → wait a s p ≤ 2500000
 wait_le a s p =
-    let i = inter_le a.banks s p in
-    let c = conflicts_le a.banks s p a.banks.cores in
-    let four = a.banks.four in
+    let b = a.banks in
+    let brief = b.brief in
+    let i = inter_le b s p in
+    let c = sum_le (shares s p) (λ q. b.conflict.0 + inter b s q) 500000 b.cores (λ q _. let i = inter_le b s q in omega arith) in
+    let four = b.four in
     let quick = a.quick in
     omega arith
 
-module _ (b : Banks) (x : Question) (small : beyond x ≡ false) where
-  pub partial_le : (p k : ℕ) → k ≤ 4 → sum_where k (apart x.sharing p) (λ q. count x q * b.l.0) ≤ k * 10 ^ 17
-  partial_le p k h = sum_le (apart x.sharing p) (λ q. count x q * b.l.0) (10 ^ 17) k (λ q below. product_le x b.l.0 q small b.short (omega arith))
-
-  pub between_le : (p : ℕ) → between b x p ≤ 4 * 10 ^ 17
-  between_le p = let most = partial_le p b.cores b.four in let four = b.four in omega arith
-
-  pub rows_le : (p k : ℕ) → k ≤ 4 → sum_sharing k x.sharing p (λ q. count x q * b.conflict.0 + between b x q) ≤ k * (5 * 10 ^ 17)
-  rows_le p k h =
-      sum_le (shares x.sharing p) (λ q. count x q * b.conflict.0 + between b x q) (5 * 10 ^ 17) k
-      (λ q below. let row = product_le x b.conflict.0 q small b.brief (omega arith) in let bank = between_le q in omega arith)
+pub between_le : (b : Banks) (x : Question) (p : ℕ) → beyond x ≡ false → between b x p ≤ 4 * 10 ^ 17
+between_le b x p small =
+    let four = b.four in
+    let most = sum_le (apart x.sharing p) (λ q. count x q * b.l.0) (10 ^ 17) b.cores (λ q below. mul-le-mul (count_small x small q (omega arith)) b.short) in
+    omega arith
 
 pub refreshes_le : (interval span t : ℕ) → 10 ^ 6 ≤ interval → span ≤ 10 ^ 6 → t ≤ 10 ^ 13 → refreshes interval span t ≤ 2 * 10 ^ 13
 refreshes_le interval span t often brief short =

@@ -10,6 +10,7 @@ ghost use Rattle.std.proofs.Common.{rules};
 use super::arbiter::Arbiter;
 use super::banks::Banks;
 use super::question::Question;
+use super::sums::sum_over;
 use terms::numbers::{DelayPerRequest, Picos};
 use terms::refusal::Refusal;
 
@@ -34,17 +35,17 @@ impl JobDriven {
     }
 
     /// How long core `p` waits for the others.
+    #[tactic(auto, using(crate::proofs::Bounds::between_le))]
     fn wait(&self, x: &Question, p: usize) -> Picos
         requires { beyond x.now ≡ false }
         ensures { result.0 ≡ job_wait self.now x.now p }
     {
-        let mut sum = Picos::NONE;
-        for q in 0..self.banks.cores {
-            if x.sharing.shares(p, q) {
-                sum += self.banks.conflict.over(x.count(q)) + self.banks.between(x, q);
-            }
-        }
-        self.banks.between(x, p) + sum
+        let rows = sum_over(
+            self.banks.cores,
+            |q| x.sharing.shares(p, q),
+            |q| self.banks.conflict.over(x.count(q)) + self.banks.between(x, q),
+        );
+        self.banks.between(x, p) + rows
     }
 }
 

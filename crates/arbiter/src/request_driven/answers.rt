@@ -7,20 +7,21 @@ ghost use Rattle.std.proofs.Common.{rules, arith};
 use super::RequestDriven;
 use crate::arbiter::Arbiter;
 use crate::question::{Question, Sharing};
+use crate::sums::sum_over;
 use terms::numbers::{DelayPerRequest, Picos};
 
 impl RequestDriven {
     /// How long one request of core `p` waits.
+    #[tactic(auto, using(crate::proofs::Bounds::inter_le))]
     fn wait(&self, sharing: &Sharing, p: usize) -> DelayPerRequest
         ensures { result.0 ≡ wait self.now sharing.now p }
     {
-        let mut sum = DelayPerRequest::NONE;
-        for q in 0..self.banks.cores {
-            if sharing.shares(p, q) {
-                sum += self.banks.conflict + self.banks.inter(sharing, q);
-            }
-        }
-        self.banks.inter(sharing, p) + self.reorder + sum
+        let rows = sum_over(
+            self.banks.cores,
+            |q| sharing.shares(p, q),
+            |q| self.banks.conflict + self.banks.inter(sharing, q),
+        );
+        self.banks.inter(sharing, p) + self.reorder + rows
     }
 }
 
