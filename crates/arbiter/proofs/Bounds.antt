@@ -11,7 +11,7 @@ use Rattle.arbiter.specs.declared.banks.Banks.{Banks}
 use Rattle.arbiter.specs.declared.question.Question.{Question}
 use Rattle.arbiter.specs.declared.question.Sharing.{Sharing}
 use Rattle.arbiter.specs.declared.request_driven.RequestDriven.{RequestDriven}
-use Rattle.arbiter.specs.Counts.{count_small}
+use Rattle.arbiter.specs.Counts.{small, count_small}
 use Rattle.terms.proofs.Sums.{sum_le}
 
 pub inter_le : (b : Banks) (s : Sharing) (p : ℕ) → inter b s p ≤ 400000
@@ -20,7 +20,7 @@ inter_le b s p =
     let four = b.four in
     omega arith
 
-pub wait_le : (a : RequestDriven) (s : Sharing) (p : ℕ) → wait a s p ≤ 2500000
+wait_le : (a : RequestDriven) (s : Sharing) (p : ℕ) → wait a s p ≤ 2500000
 wait_le a s p =
     let b = a.banks in
     let brief = b.brief in
@@ -30,10 +30,16 @@ wait_le a s p =
     let quick = a.quick in
     omega arith
 
+-- all that a core's own requests wait
+pub own_wait_le : (a : RequestDriven) (x : Question) (p w : ℕ) → w ≡ wait a x.sharing p → beyond x ≡ false → x.own.0 * w ≤ 25 * 10 ^ 17
+own_wait_le a x p w is e =
+    let short : w ≤ 2500000 = omega (arith, wait_le a x.sharing p) in
+    mul-le-mul (small x e).own short
+
 pub between_le : (b : Banks) (x : Question) (p : ℕ) → beyond x ≡ false → between b x p ≤ 4 * 10 ^ 17
-between_le b x p small =
+between_le b x p e =
     let four = b.four in
-    let most = sum_le (apart x.sharing p) (λ q. count x q * b.l.0) (10 ^ 17) b.cores (λ q below. mul-le-mul (count_small x small q (omega arith)) b.short) in
+    let most = sum_le (apart x.sharing p) (λ q. count x q * b.l.0) (10 ^ 17) b.cores (λ q below. mul-le-mul (count_small x e q (omega arith)) b.short) in
     omega arith
 
 pub refreshes_le : (interval span t : ℕ) → 10 ^ 6 ≤ interval → span ≤ 10 ^ 6 → t ≤ 10 ^ 13 → refreshes interval span t ≤ 2 * 10 ^ 13

@@ -7,6 +7,7 @@ use super::settings::in_range;
 use terms::numbers::DelayPerRequest;
 use terms::refusal::Refusal;
 
+pub mod settled;
 pub mod waits;
 
 /// The settings of the banks: the number of cores, the longest wait `l` between banks, and that of a row conflict.

@@ -59,10 +59,6 @@ impl Arbiter for JobDriven {
     ghost past = { Prim.search rules };
 
     fn answer(&self, q: &Question) -> Picos {
-        let core = usize::from(q.core);
-        if core >= self.banks.cores || q.beyond() {
-            return Question::ceiling();
-        }
-        self.wait(q, core).min(Question::ceiling())
+        self.banks.settled(q, |core| self.wait(q, core))
     }
 }

@@ -105,9 +105,6 @@ impl Question {
     {
         self.t.get() > Question::LONGEST
             || self.own.get() > Question::LARGEST
-            || self.count(0).get() > Question::LARGEST
-            || self.count(1).get() > Question::LARGEST
-            || self.count(2).get() > Question::LARGEST
-            || self.count(3).get() > Question::LARGEST
+            || self.others.iter().any(|n| n.get() > Question::LARGEST)
     }
 }

@@ -34,13 +34,9 @@ impl Arbiter for RequestDriven {
 
     ghost past = { first_of (Prim.search rules, Prim.grind (arith, Self.row.coded.inj)) };
 
+    #[tactic(auto, using(crate::proofs::Bounds::own_wait_le))]
     fn answer(&self, q: &Question) -> Picos {
-        let core = usize::from(q.core);
-        if core >= self.banks.cores || q.beyond() {
-            return Question::ceiling();
-        }
-        self.wait(&q.sharing, core)
-            .over(q.own)
-            .min(Question::ceiling())
+        self.banks
+            .settled(q, |core| self.wait(&q.sharing, core).over(q.own))
     }
 }
