@@ -1,7 +1,7 @@
 //! The banks of the memory, as the cores wait for them.
-ghost use Rattle.std.specs.Prelude.{◌≡◌, ◌≤◌, [], ◌∷◌};
-ghost use Rattle.terms.specs.Checks.{within, first_out};
-ghost use Rattle.arbiter.specs.Settings.{Made};
+ghost use Rattle.std.specs.Prelude.{◌≡◌, ◌≤◌};
+ghost use Rattle.terms.specs.Checks.{first_out};
+ghost use Rattle.arbiter.specs.Settings.{Made, banks_in_range};
 
 use super::settings::in_range;
 use terms::numbers::DelayPerRequest;
@@ -32,7 +32,7 @@ impl Banks {
         l: DelayPerRequest,
         conflict: DelayPerRequest,
     ) -> Result<Banks, Refusal>
-        ensures { Made (first_out 0 (within 1 4 cores ∷ within 0 100000 l.0 ∷ within 0 100000 conflict.0 ∷ [])) result (λ b. (b.cores ≡ cores) × (b.l ≡ l) × (b.conflict ≡ conflict)) }
+        ensures { Made (first_out 0 (banks_in_range cores l conflict)) result (λ b. (b.cores ≡ cores) × (b.l ≡ l) × (b.conflict ≡ conflict)) }
     {
         in_range(0, cores as u64, 1, 4)?;
         in_range(1, l.get(), 0, LONGEST_DELAY)?;

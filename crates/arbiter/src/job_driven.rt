@@ -1,9 +1,9 @@
 //! The arbiter that reckons from the requests of the other cores.
-ghost use Rattle.std.specs.Prelude.{◌≡◌, false, [], ◌∷◌};
+ghost use Rattle.std.specs.Prelude.{◌≡◌, false};
 ghost use Rattle.arbiter.specs.Bounds.{job_wait, job_bound};
 ghost use Rattle.arbiter.specs.Questions.{beyond};
-ghost use Rattle.terms.specs.Checks.{within, first_out};
-ghost use Rattle.arbiter.specs.Settings.{Made};
+ghost use Rattle.terms.specs.Checks.{first_out};
+ghost use Rattle.arbiter.specs.Settings.{Made, banks_in_range};
 ghost use Rattle.arbiter.specs.Rising.{job_rises};
 ghost use Rattle.std.proofs.Common.{rules};
 
@@ -27,7 +27,7 @@ impl JobDriven {
         l: DelayPerRequest,
         conflict: DelayPerRequest,
     ) -> Result<JobDriven, Refusal>
-        ensures { Made (first_out 0 (within 1 4 cores ∷ within 0 100000 l.0 ∷ within 0 100000 conflict.0 ∷ [])) result (λ a. (a.banks.cores ≡ cores) × (a.banks.l ≡ l) × (a.banks.conflict ≡ conflict)) }
+        ensures { Made (first_out 0 (banks_in_range cores l conflict)) result (λ a. (a.banks.cores ≡ cores) × (a.banks.l ≡ l) × (a.banks.conflict ≡ conflict)) }
     {
         Ok(JobDriven {
             banks: Banks::new(cores, l, conflict)?,
