@@ -11,7 +11,7 @@ pub mod settled;
 pub mod waits;
 
 /// The settings of the banks: the number of cores, the longest wait `l` between banks, and that of a row conflict.
-#[derive(Clone, Copy)]
+#[derive(Clone, Copy, Debug, PartialEq, Eq)]
 pub struct Banks {
     pub(crate) cores: usize,
     pub(crate) l: DelayPerRequest,

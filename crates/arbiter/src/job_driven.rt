@@ -15,7 +15,7 @@ use terms::numbers::{DelayPerRequest, Picos};
 use terms::refusal::Refusal;
 
 /// A core waits for each request that another core makes.
-#[derive(Clone, Copy)]
+#[derive(Clone, Copy, Debug, PartialEq, Eq)]
 pub struct JobDriven {
     banks: Banks,
 }

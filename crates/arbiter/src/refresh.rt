@@ -13,7 +13,7 @@ use terms::numbers::Picos;
 use terms::refusal::Refusal;
 
 /// An arbiter, and the refreshes of the memory that go on beside it: one of `span` in each `interval`.
-#[derive(Drop)]
+#[derive(Debug, PartialEq, Eq, Drop)]
 pub struct Refresh<P> {
     below: P,
     interval: Picos,

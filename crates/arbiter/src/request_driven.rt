@@ -11,7 +11,7 @@ use terms::refusal::Refusal;
 pub mod answers;
 
 /// Each of a core's own requests waits as long as one request can.
-#[derive(Clone, Copy)]
+#[derive(Clone, Copy, Debug, PartialEq, Eq)]
 pub struct RequestDriven {
     banks: Banks,
     reorder: DelayPerRequest,
