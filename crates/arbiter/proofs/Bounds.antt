@@ -1,6 +1,7 @@
 -- How large the waits between banks are at most. Assumes nothing.
-use Rattle.std.proofs.Common.{◌≡◌, ℕ, ◌+◌, ◌-◌, ◌*◌, ◌^◌, ◌<◌, ◌≤◌, false, mul-le-mul, arith}
-use Rattle.std.proofs.lemmas.Nat.{div_below}
+use Rattle.std.proofs.Common.{◌≡◌, ℕ, zero, suc, ◌/◌, ◌%◌, min, refl, div-add-mod', mod-lt, ◌+◌, ◌-◌, ◌*◌, ◌^◌, ◌<◌, ◌≤◌, false, mul-le-mul, arith}
+use Rattle.std.proofs.lemmas.Nat.{div_below, div-mul-add}
+use Rattle.std.specs.Int.{div_ceil}
 use Rattle.arbiter.specs.Banks.{inter, between}
 use Rattle.terms.specs.Sums.{sum_where}
 use Rattle.arbiter.specs.Cores.{sum_sharing}
@@ -47,3 +48,18 @@ refreshes_le interval span t often brief short =
     let few : rounds t interval < 2 * 10 ^ 7 = div_below (t + (interval - 1)) interval (2 * 10 ^ 7) (omega arith) (omega arith) in
     let some : rounds t interval ≤ 2 * 10 ^ 7 = omega arith in
     mul-le-mul some brief
+
+-- how many refreshes a time meets, as `div_ceil` gives it
+pub rounds_ceil : (t interval : ℕ) → 0 < interval → div_ceil t interval ≡ rounds t interval
+rounds_ceil t interval some = go (t % interval) refl
+  where
+    go : (r : ℕ) → t % interval ≡ r → t / interval + min 1 r ≡ rounds t interval
+    go zero e =
+        let whole = div-mul-add (t / interval) interval (interval - 1) (omega arith) in
+        let is : t / interval * interval + (interval - 1) ≡ t + (interval - 1) = omega (arith, div-add-mod' t interval) in
+        omega (arith, rw is at whole)
+    go (suc r) e =
+        let short = mod-lt t some in
+        let whole = div-mul-add (t / interval + 1) interval r (omega arith) in
+        let is : (t / interval + 1) * interval + r ≡ t + (interval - 1) = grind (arith, div-add-mod' t interval) in
+        omega (arith, rw is at whole)

@@ -1,5 +1,5 @@
 //! The layer that adds what refreshing the memory takes.
-ghost use Rattle.std.specs.Prelude.{◌≡◌, ◌^◌, ◌≤◌, [], ◌∷◌};
+ghost use Rattle.std.specs.Prelude.{◌≡◌, ◌*◌, ◌^◌, ◌≤◌, [], ◌∷◌};
 ghost use Rattle.arbiter.specs.Refreshes.{refreshes, refreshed};
 ghost use Rattle.terms.specs.Checks.{within, first_out};
 ghost use Rattle.arbiter.specs.Settings.{Made};
@@ -40,12 +40,13 @@ impl<P> Refresh<P> {
     }
 
     /// What the refreshes in a time `t` take.
+    #[tactic(auto, using(crate::proofs::Bounds::rounds_ceil, crate::proofs::Bounds::refreshes_le))]
     fn added(&self, t: Picos) -> Picos
         requires { t.0 ≤ 10 ^ 13 }
-        ensures { result.0 ≡ refreshes self.now.interval.0 self.now.span.0 t.0 }
+        ensures takes { result.0 ≡ refreshes self.now.interval.0 self.now.span.0 t.0 }
+        ensures most { result.0 ≤ 2 * 10 ^ 13 }
     {
-        let interval = self.interval.get();
-        Picos::new((t.get() + (interval - 1)) / interval * self.span.get())
+        self.span.times(t.get().div_ceil(self.interval.get()))
     }
 }
 
