@@ -3,8 +3,6 @@ use Rattle.std.proofs.Common.{◌≡◌, ℕ, zero, suc, ◌/◌, ◌%◌, min, 
 use Rattle.std.proofs.lemmas.Nat.{div_below, div-mul-add}
 use Rattle.std.specs.Int.{div_ceil}
 use Rattle.arbiter.specs.Banks.{inter, between}
-use Rattle.terms.specs.Sums.{sum_where}
-use Rattle.arbiter.specs.Cores.{sum_sharing}
 use Rattle.arbiter.specs.Questions.{beyond, count, apart, shares}
 use Rattle.arbiter.specs.Bounds.{wait}
 use Rattle.arbiter.specs.Refreshes.{rounds, refreshes}

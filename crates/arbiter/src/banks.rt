@@ -4,6 +4,7 @@ ghost use Rattle.terms.specs.Checks.{first_out};
 ghost use Rattle.arbiter.specs.Settings.{Made, banks_in_range};
 
 use super::settings::in_range;
+use terms::cores::Core;
 use terms::numbers::DelayPerRequest;
 use terms::refusal::Refusal;
 
@@ -34,7 +35,7 @@ impl Banks {
     ) -> Result<Banks, Refusal>
         ensures { Made (first_out 0 (banks_in_range cores l conflict)) result (λ b. (b.cores ≡ cores) × (b.l ≡ l) × (b.conflict ≡ conflict)) }
     {
-        in_range(0, cores as u64, 1, 4)?;
+        in_range(0, cores as u64, 1, Core::MOST as u64)?;
         in_range(1, l.get(), 0, LONGEST_DELAY)?;
         in_range(2, conflict.get(), 0, LONGEST_DELAY)?;
         Ok(Banks { cores, l, conflict })

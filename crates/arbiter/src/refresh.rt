@@ -59,9 +59,9 @@ impl<P: Arbiter> Arbiter for Refresh<P> {
         let more = refreshes_rise a.interval.0 a.span.0 x.t.0 y.t.0 (omega arith) h.t in
         omega arith };
 
-    ghost within = { first_of (Prim.search rules, Prim.grind (arith, Self.row.coded.inj)) };
+    ghost within = { Prim.search rules };
 
-    ghost past = { first_of (Prim.search rules, Prim.grind (arith, Self.row.coded.inj)) };
+    ghost past = { Prim.search rules };
 
     fn answer(&self, q: &Question) -> Picos {
         if q.beyond() {

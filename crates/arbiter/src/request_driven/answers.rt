@@ -30,9 +30,9 @@ impl Arbiter for RequestDriven {
 
     ghost rises = { request_rises };
 
-    ghost within = { first_of (Prim.search rules, Prim.grind (arith, Self.row.coded.inj)) };
+    ghost within = { Prim.search rules };
 
-    ghost past = { first_of (Prim.search rules, Prim.grind (arith, Self.row.coded.inj)) };
+    ghost past = { Prim.search rules };
 
     #[tactic(auto, using(crate::proofs::Bounds::own_wait_le))]
     fn answer(&self, q: &Question) -> Picos {
