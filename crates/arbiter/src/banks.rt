@@ -27,6 +27,8 @@ pub struct Banks {
 pub const LONGEST_DELAY: u64 = 100_000;
 
 impl Banks {
+    // here and in both arbiters the three settings stand one by one, since a refusal tells the place in the call; so do
+    // the three equations, since this file cannot name a definition over its own struct
     /// Refuses a setting out of its range, the first of them.
     pub fn new(
         cores: usize,

@@ -32,6 +32,7 @@ impl Sharing {
     pub fn join(&mut self, a: Core, b: Core)
         ensures { self.new ≡ joined self.old (number_of a) (number_of b) }
     {
+        // one match to set a pair and one to read it: a type of the six pairs would need a third, to make it
         match in_order(usize::from(a), usize::from(b)) {
             (0, 1) => self.p01 = true,
             (0, 2) => self.p02 = true,

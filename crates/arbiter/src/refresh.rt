@@ -64,6 +64,7 @@ impl<P: Arbiter> Arbiter for Refresh<P> {
     ghost past = { Prim.search rules };
 
     fn answer(&self, q: &Question) -> Picos {
+        // not by `Banks::settled`, for a layer has no number of cores
         if q.beyond() {
             return Question::ceiling();
         }

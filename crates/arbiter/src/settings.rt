@@ -6,6 +6,7 @@ ghost use Rattle.arbiter.specs.Settings.{Made};
 use terms::checks::is_within;
 use terms::refusal::Refusal;
 
+// two bounds and no range: of a `RangeInclusive` the clause would also have to say that it is not exhausted
 /// Refuses a setting outside `least..=most`, telling its position.
 pub(crate) fn in_range(position: usize, setting: u64, least: u64, most: u64) -> Result<(), Refusal>
     ensures { Made (first_out position (within least most setting ∷ [])) result (λ _. (least ≤ setting) × (setting ≤ most)) }

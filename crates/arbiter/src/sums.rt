@@ -18,6 +18,7 @@ pub(crate) fn sum_over<U: Copy, T: Fn(usize) -> bool, F: Fn(usize) -> Amount<U>>
     ensures most { result.0 ≤ 4 * 10 ^ 18 }
     ensures sums { (passes : ℕ → Bool) (f : ℕ → ℕ) → Tests n (T.post test) passes → Terms n (F.post term) f → result.0 ≡ sum_where n passes f }
 {
+    // a chain would have to be allowed the calls of `test` and `term` at every number, and not below `n` alone
     let mut sum = Amount::new(0);
     for q in 0..n {
         if test(q) {
