@@ -1,20 +1,21 @@
 //! The arbiter that reckons from the requests of the other cores.
-ghost use Rattle.std.specs.Prelude.{◌≡◌, false, [], ◌∷◌};
+ghost use Rattle.std.specs.Prelude.{◌≡◌, false};
 ghost use Rattle.arbiter.specs.Bounds.{job_wait, job_bound};
 ghost use Rattle.arbiter.specs.Questions.{beyond};
-ghost use Rattle.terms.specs.Checks.{within, first_out};
-ghost use Rattle.arbiter.specs.Settings.{Made};
+ghost use Rattle.terms.specs.Checks.{first_out};
+ghost use Rattle.arbiter.specs.Settings.{Made, banks_in_range};
 ghost use Rattle.arbiter.specs.Rising.{job_rises};
 ghost use Rattle.std.proofs.Common.{rules};
 
 use super::arbiter::Arbiter;
 use super::banks::Banks;
 use super::question::Question;
+use super::sums::sum_over;
 use terms::numbers::{DelayPerRequest, Picos};
 use terms::refusal::Refusal;
 
 /// A core waits for each request that another core makes.
-#[derive(Clone, Copy)]
+#[derive(Clone, Copy, Debug, PartialEq, Eq)]
 pub struct JobDriven {
     banks: Banks,
 }
@@ -26,7 +27,7 @@ impl JobDriven {
         l: DelayPerRequest,
         conflict: DelayPerRequest,
     ) -> Result<JobDriven, Refusal>
-        ensures { Made (first_out 0 (within 1 4 cores ∷ within 0 100000 l.0 ∷ within 0 100000 conflict.0 ∷ [])) result (λ a. (a.banks.cores ≡ cores) × (a.banks.l ≡ l) × (a.banks.conflict ≡ conflict)) }
+        ensures { Made (first_out 0 (banks_in_range cores l conflict)) result (λ a. (a.banks.cores ≡ cores) × (a.banks.l ≡ l) × (a.banks.conflict ≡ conflict)) }
     {
         Ok(JobDriven {
             banks: Banks::new(cores, l, conflict)?,
@@ -34,17 +35,17 @@ impl JobDriven {
     }
 
     /// How long core `p` waits for the others.
+    #[tactic(auto, using(crate::proofs::Bounds::between_le))]
     fn wait(&self, x: &Question, p: usize) -> Picos
         requires { beyond x.now ≡ false }
         ensures { result.0 ≡ job_wait self.now x.now p }
     {
-        let mut sum = Picos::NONE;
-        for q in 0..self.banks.cores {
-            if x.sharing.shares(p, q) {
-                sum += self.banks.conflict.over(x.count(q)) + self.banks.between(x, q);
-            }
-        }
-        self.banks.between(x, p) + sum
+        let rows = sum_over(
+            self.banks.cores,
+            |q| x.sharing.shares(p, q),
+            |q| self.banks.conflict.over(x.count(q)) + self.banks.between(x, q),
+        );
+        self.banks.between(x, p) + rows
     }
 }
 
@@ -58,10 +59,6 @@ impl Arbiter for JobDriven {
     ghost past = { Prim.search rules };
 
     fn answer(&self, q: &Question) -> Picos {
-        let core = usize::from(q.core);
-        if core >= self.banks.cores || q.beyond() {
-            return Question::ceiling();
-        }
-        self.wait(q, core).min(Question::ceiling())
+        self.banks.settled(q, |core| self.wait(q, core))
     }
 }

@@ -7,7 +7,7 @@ use super::question::Question;
 use terms::numbers::Picos;
 
 /// Two arbiters, of which the one with the smaller bound answers.
-#[derive(Drop)]
+#[derive(Debug, PartialEq, Eq, Drop)]
 pub struct Lesser<P, Q> {
     first: P,
     second: Q,

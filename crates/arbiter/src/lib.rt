@@ -10,3 +10,4 @@ pub mod refresh;
 pub mod request_driven;
 pub mod settings;
 pub mod station;
+pub mod sums;

@@ -1,5 +1,5 @@
 //! What an arbiter is asked.
-ghost use Rattle.std.specs.Prelude.{◌≡◌, ◌<◌};
+ghost use Rattle.std.specs.Prelude.{◌≡◌, ◌<◌, min, max};
 ghost use Rattle.terms.specs.Cores.{number_of};
 ghost use Rattle.arbiter.specs.Questions.{shares, apart, joined, beyond, count, ceiling};
 
@@ -7,7 +7,7 @@ use terms::cores::Core;
 use terms::numbers::{Picos, Requests};
 
 /// Which of the six pairs of the four cores share.
-#[derive(Clone, Copy)]
+#[derive(Clone, Copy, Debug, PartialEq, Eq)]
 pub struct Sharing {
     p01: bool,
     p02: bool,
@@ -32,13 +32,14 @@ impl Sharing {
     pub fn join(&mut self, a: Core, b: Core)
         ensures { self.new ≡ joined self.old (number_of a) (number_of b) }
     {
-        match (a, b) {
-            (Core::Zero, Core::One) | (Core::One, Core::Zero) => self.p01 = true,
-            (Core::Zero, Core::Two) | (Core::Two, Core::Zero) => self.p02 = true,
-            (Core::Zero, Core::Three) | (Core::Three, Core::Zero) => self.p03 = true,
-            (Core::One, Core::Two) | (Core::Two, Core::One) => self.p12 = true,
-            (Core::One, Core::Three) | (Core::Three, Core::One) => self.p13 = true,
-            (Core::Two, Core::Three) | (Core::Three, Core::Two) => self.p23 = true,
+        // one match to set a pair and one to read it: a type of the six pairs would need a third, to make it
+        match in_order(usize::from(a), usize::from(b)) {
+            (0, 1) => self.p01 = true,
+            (0, 2) => self.p02 = true,
+            (0, 3) => self.p03 = true,
+            (1, 2) => self.p12 = true,
+            (1, 3) => self.p13 = true,
+            (2, 3) => self.p23 = true,
             _ => {}
         }
     }
@@ -47,13 +48,13 @@ impl Sharing {
     pub fn shares(&self, a: usize, b: usize) -> bool
         ensures { result ≡ shares self.now a b }
     {
-        match (a, b) {
-            (0, 1) | (1, 0) => self.p01,
-            (0, 2) | (2, 0) => self.p02,
-            (0, 3) | (3, 0) => self.p03,
-            (1, 2) | (2, 1) => self.p12,
-            (1, 3) | (3, 1) => self.p13,
-            (2, 3) | (3, 2) => self.p23,
+        match in_order(a, b) {
+            (0, 1) => self.p01,
+            (0, 2) => self.p02,
+            (0, 3) => self.p03,
+            (1, 2) => self.p12,
+            (1, 3) => self.p13,
+            (2, 3) => self.p23,
             _ => false,
         }
     }
@@ -66,9 +67,16 @@ impl Sharing {
     }
 }
 
+/// Two numbers, the smaller first.
+fn in_order(a: usize, b: usize) -> (usize, usize)
+    ensures { result ≡ (min a b, max a b) }
+{
+    (a.min(b), a.max(b))
+}
+
 /// One question: how long a job on `core` waits for the memory in a time `t`, where it makes `own` requests and
 /// `others` has a count of requests for each core.
-#[derive(Clone, Copy)]
+#[derive(Clone, Copy, Debug, PartialEq, Eq)]
 pub struct Question {
     pub core: Core,
     pub t: Picos,
@@ -105,9 +113,6 @@ impl Question {
     {
         self.t.get() > Question::LONGEST
             || self.own.get() > Question::LARGEST
-            || self.count(0).get() > Question::LARGEST
-            || self.count(1).get() > Question::LARGEST
-            || self.count(2).get() > Question::LARGEST
-            || self.count(3).get() > Question::LARGEST
+            || self.others.iter().any(|n| n.get() > Question::LARGEST)
     }
 }

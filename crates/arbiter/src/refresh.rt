@@ -1,5 +1,5 @@
 //! The layer that adds what refreshing the memory takes.
-ghost use Rattle.std.specs.Prelude.{◌≡◌, ◌^◌, ◌≤◌, [], ◌∷◌};
+ghost use Rattle.std.specs.Prelude.{◌≡◌, ◌*◌, ◌^◌, ◌≤◌, [], ◌∷◌};
 ghost use Rattle.arbiter.specs.Refreshes.{refreshes, refreshed};
 ghost use Rattle.terms.specs.Checks.{within, first_out};
 ghost use Rattle.arbiter.specs.Settings.{Made};
@@ -13,7 +13,7 @@ use terms::numbers::Picos;
 use terms::refusal::Refusal;
 
 /// An arbiter, and the refreshes of the memory that go on beside it: one of `span` in each `interval`.
-#[derive(Drop)]
+#[derive(Debug, PartialEq, Eq, Drop)]
 pub struct Refresh<P> {
     below: P,
     interval: Picos,
@@ -40,12 +40,13 @@ impl<P> Refresh<P> {
     }
 
     /// What the refreshes in a time `t` take.
+    #[tactic(auto, using(crate::proofs::Bounds::rounds_ceil, crate::proofs::Bounds::refreshes_le))]
     fn added(&self, t: Picos) -> Picos
         requires { t.0 ≤ 10 ^ 13 }
-        ensures { result.0 ≡ refreshes self.now.interval.0 self.now.span.0 t.0 }
+        ensures takes { result.0 ≡ refreshes self.now.interval.0 self.now.span.0 t.0 }
+        ensures most { result.0 ≤ 2 * 10 ^ 13 }
     {
-        let interval = self.interval.get();
-        Picos::new((t.get() + (interval - 1)) / interval * self.span.get())
+        self.span.times(t.get().div_ceil(self.interval.get()))
     }
 }
 
@@ -58,11 +59,12 @@ impl<P: Arbiter> Arbiter for Refresh<P> {
         let more = refreshes_rise a.interval.0 a.span.0 x.t.0 y.t.0 (omega arith) h.t in
         omega arith };
 
-    ghost within = { first_of (Prim.search rules, Prim.grind (arith, Self.row.coded.inj)) };
+    ghost within = { Prim.search rules };
 
-    ghost past = { first_of (Prim.search rules, Prim.grind (arith, Self.row.coded.inj)) };
+    ghost past = { Prim.search rules };
 
     fn answer(&self, q: &Question) -> Picos {
+        // not by `Banks::settled`, for a layer has no number of cores
         if q.beyond() {
             return Question::ceiling();
         }

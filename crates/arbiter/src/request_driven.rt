@@ -1,7 +1,7 @@
 //! The arbiter that reckons from a core's own requests.
-ghost use Rattle.std.specs.Prelude.{◌≡◌, ◌≤◌, [], ◌∷◌};
+ghost use Rattle.std.specs.Prelude.{◌≡◌, ◌≤◌, [], ◌∷◌, ◌++◌};
 ghost use Rattle.terms.specs.Checks.{within, first_out};
-ghost use Rattle.arbiter.specs.Settings.{Made};
+ghost use Rattle.arbiter.specs.Settings.{Made, banks_in_range};
 
 use super::banks::{Banks, LONGEST_DELAY};
 use super::settings::in_range;
@@ -11,7 +11,7 @@ use terms::refusal::Refusal;
 pub mod answers;
 
 /// Each of a core's own requests waits as long as one request can.
-#[derive(Clone, Copy)]
+#[derive(Clone, Copy, Debug, PartialEq, Eq)]
 pub struct RequestDriven {
     banks: Banks,
     reorder: DelayPerRequest,
@@ -26,7 +26,7 @@ impl RequestDriven {
         conflict: DelayPerRequest,
         reorder: DelayPerRequest,
     ) -> Result<RequestDriven, Refusal>
-        ensures { Made (first_out 0 (within 1 4 cores ∷ within 0 100000 l.0 ∷ within 0 100000 conflict.0 ∷ within 0 100000 reorder.0 ∷ [])) result (λ a. (a.banks.cores ≡ cores) × (a.banks.l ≡ l) × (a.banks.conflict ≡ conflict) × (a.reorder ≡ reorder)) }
+        ensures { Made (first_out 0 (banks_in_range cores l conflict ++ within 0 100000 reorder.0 ∷ [])) result (λ a. (a.banks.cores ≡ cores) × (a.banks.l ≡ l) × (a.banks.conflict ≡ conflict) × (a.reorder ≡ reorder)) }
     {
         let banks = Banks::new(cores, l, conflict)?;
         in_range(3, reorder.get(), 0, LONGEST_DELAY)?;

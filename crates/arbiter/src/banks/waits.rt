@@ -5,6 +5,7 @@ ghost use Rattle.arbiter.specs.Questions.{beyond};
 
 use super::Banks;
 use crate::question::{Question, Sharing};
+use crate::sums::sum_over;
 use terms::numbers::{DelayPerRequest, Picos};
 
 impl Banks {
@@ -12,13 +13,7 @@ impl Banks {
     pub(crate) fn inter(&self, sharing: &Sharing, p: usize) -> DelayPerRequest
         ensures { result.0 ≡ inter self.now sharing.now p }
     {
-        let mut sum = DelayPerRequest::NONE;
-        for q in 0..self.cores {
-            if sharing.apart(p, q) {
-                sum += self.l;
-            }
-        }
-        sum
+        sum_over(self.cores, |q| sharing.apart(p, q), |_| self.l)
     }
 
     /// How long core `p` waits between banks for the requests of the others.
@@ -26,12 +21,10 @@ impl Banks {
         requires { beyond x.now ≡ false }
         ensures { result.0 ≡ between self.now x.now p }
     {
-        let mut sum = Picos::NONE;
-        for q in 0..self.cores {
-            if x.sharing.apart(p, q) {
-                sum += self.l.over(x.count(q));
-            }
-        }
-        sum
+        sum_over(
+            self.cores,
+            |q| x.sharing.apart(p, q),
+            |q| self.l.over(x.count(q)),
+        )
     }
 }

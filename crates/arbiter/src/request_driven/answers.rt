@@ -7,20 +7,21 @@ ghost use Rattle.std.proofs.Common.{rules, arith};
 use super::RequestDriven;
 use crate::arbiter::Arbiter;
 use crate::question::{Question, Sharing};
+use crate::sums::sum_over;
 use terms::numbers::{DelayPerRequest, Picos};
 
 impl RequestDriven {
     /// How long one request of core `p` waits.
+    #[tactic(auto, using(crate::proofs::Bounds::inter_le))]
     fn wait(&self, sharing: &Sharing, p: usize) -> DelayPerRequest
         ensures { result.0 ≡ wait self.now sharing.now p }
     {
-        let mut sum = DelayPerRequest::NONE;
-        for q in 0..self.banks.cores {
-            if sharing.shares(p, q) {
-                sum += self.banks.conflict + self.banks.inter(sharing, q);
-            }
-        }
-        self.banks.inter(sharing, p) + self.reorder + sum
+        let rows = sum_over(
+            self.banks.cores,
+            |q| sharing.shares(p, q),
+            |q| self.banks.conflict + self.banks.inter(sharing, q),
+        );
+        self.banks.inter(sharing, p) + self.reorder + rows
     }
 }
 
@@ -29,17 +30,13 @@ impl Arbiter for RequestDriven {
 
     ghost rises = { request_rises };
 
-    ghost within = { first_of (Prim.search rules, Prim.grind (arith, Self.row.coded.inj)) };
+    ghost within = { Prim.search rules };
 
-    ghost past = { first_of (Prim.search rules, Prim.grind (arith, Self.row.coded.inj)) };
+    ghost past = { Prim.search rules };
 
+    #[tactic(auto, using(crate::proofs::Bounds::own_wait_le))]
     fn answer(&self, q: &Question) -> Picos {
-        let core = usize::from(q.core);
-        if core >= self.banks.cores || q.beyond() {
-            return Question::ceiling();
-        }
-        self.wait(&q.sharing, core)
-            .over(q.own)
-            .min(Question::ceiling())
+        self.banks
+            .settled(q, |core| self.wait(&q.sharing, core).over(q.own))
     }
 }

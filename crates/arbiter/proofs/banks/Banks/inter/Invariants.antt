@@ -1,6 +1,0 @@
-use Rattle.std.proofs.Common.{◌≡◌}
-use Rattle.arbiter.specs.Cores.{sum_apart}
-use Rattle.arbiter.proofs.banks.Banks.inter.Given as goal
-
-abbrev pub invariant-loop-q : goal.invariant-loop-q
-invariant-loop-q l = l.sum.0 ≡ sum_apart l.q l.sharing l.p (λ q. l.self.l.0)
