@@ -5,8 +5,9 @@ use super::bits::bits_at;
 use super::file_row::FileRow;
 use super::model::Partition;
 use super::names::is_good_name;
-use super::ranges::{LONGEST_TIME, SHORTEST_PERIOD, is_within};
+use super::ranges::{LONGEST_TIME, SHORTEST_PERIOD};
 use super::row::Row;
+use terms::checks::is_within;
 use terms::numbers::Picos;
 use terms::refusal::Refusal;
 
