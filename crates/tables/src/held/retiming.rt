@@ -14,12 +14,8 @@ impl Tables {
     pub fn retime(&mut self, task: usize, timing: Timing) -> Option<Timing>
         ensures { Retimes (tabled self.old) task timing result (tabled self.new) }
     {
-        if task >= self.tasks.len() {
-            return None;
-        }
-        let former = self.tasks[task];
-        let next = with_timing(former, timing);
-        self.tasks[task] = next;
+        let former = self.tasks.get(task).copied()?;
+        self.tasks[task] = with_timing(former, timing);
         Some(timing_of(former))
     }
 }
