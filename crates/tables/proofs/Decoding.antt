@@ -1,10 +1,9 @@
 -- What the reader's calls say of `decode`, where one follows another. Assumes nothing.
-use Rattle.std.proofs.Common.{◌≡◌, ℕ, ◌<◌, List, [], length, get_or, Ok, Err, Result, sym, ap, ◌∙◌, subst, arith}
+use Rattle.std.proofs.Common.{◌≡◌, ℕ, ◌<◌, List, [], length, get_or, Ok, Result, sym, ap, ◌∙◌, subst, arith}
 use Rattle.std.proofs.lemmas.List.{length-map}
 use Rattle.std.proofs.ByRecursion.{All-get_or, All-map}
 use Rattle.std.specs.Int.Digits.{AllBelowBase}
 use Rattle.std.specs.List.{AllByRecursion}
-use Rattle.terms.specs.declared.refusal.Refusal.{Refusal}
 use Rattle.tables.specs.declared.model.Partition.{Partition}
 use Rattle.tables.specs.declared.model.Task.{Task}
 use Rattle.tables.specs.declared.model.Link.{Link}
@@ -13,13 +12,10 @@ use Rattle.tables.specs.Kinds.{Kind, rows_from, and_then, unless}
 use Rattle.tables.specs.RowKinds.{partition_kind, task_kind, link_kind}
 use Rattle.tables.specs.Ranges.{EachTimed, EachMember, Period, no_partition, no_task}
 use Rattle.tables.specs.Contents.{Book, decode, decode_after, header_of, head_at, end_fault}
-use Rattle.tables.specs.Answers.{Headed, HeadBad, Held, RefusedRows, Ended, Unended}
-use Rattle.tables.specs.Reading.{Accepted, Refused}
+use Rattle.tables.specs.Answers.{Headed, Held, Ended}
+use Rattle.tables.specs.Reading.{Accepted}
 use Rattle.tables.proofs.InRange.{TaskKept, Counts, counts}
 use Rattle.tables.proofs.Laid.{laid_out, head_sound, partitions_ran, tasks_ran, links_ran}
-
-then_err : {X Y : Type 0} {q : Result X (ℕ × ℕ)} (f : X → Result Y (ℕ × ℕ)) {x : ℕ × ℕ} → q ≡ Err x → and_then q f ≡ Err x
-then_err f e = ap (λ q. and_then q f) e
 
 pub then_ok : {X Y : Type 0} {q : Result X (ℕ × ℕ)} (f : X → Result Y (ℕ × ℕ)) {x : X} → q ≡ Ok x → and_then q f ≡ f x
 then_ok f e = ap (λ q. and_then q f) e
@@ -27,9 +23,6 @@ then_ok f e = ap (λ q. and_then q f) e
 -- the same of a reader that has the file as `seen` and stands where we know
 pub moved : {R : Type 0} (k : Kind R) (parts n : ℕ) (xs : List R) (to : ℕ) (seen file : List ℕ) → seen ≡ file → (o o' : ℕ) → o ≡ o' → Held k seen parts n o xs to → Held k file parts n o' xs to
 moved k parts n xs to seen file e o o' f h = subst (λ p. Held k file parts n p xs to) f (subst (λ s. Held k s parts n o xs to) e h)
-
-pub refused_at : {R : Type 0} (k : Kind R) (parts n : ℕ) (seen file : List ℕ) → seen ≡ file → (o o' : ℕ) → o ≡ o' → (e : Refusal) → RefusedRows k seen parts n o e → RefusedRows k file parts n o' e
-refused_at k parts n seen file s o o' f e h = subst (λ p. RefusedRows k file parts n p e) f (subst (λ g. RefusedRows k g parts n o e) s h)
 
 pub moved_head : (h : Header) (to : ℕ) (seen file : List ℕ) → seen ≡ file → (o : ℕ) → o ≡ 0 → Headed seen o h to → Headed file 0 h to
 moved_head h to seen file e o f q = subst (λ p. Headed file p h to) f (subst (λ s. Headed s o h to) e q)
@@ -55,11 +48,6 @@ pub past_rows : {R : Type 0} (k : Kind R) {start seen file : List ℕ} {parts n 
 past_rows k {start} {seen} {file} {parts} {n} {o} {p} {to} {xs} e f stays h =
     record { held = moved k parts n xs to start file e o p f h; same = stays ∙ e }
 
-pub head_refused : (seen file : List ℕ) → seen ≡ file → (o : ℕ) → o ≡ 0 → (e : Refusal) (to : ℕ) → HeadBad seen o e to → Refused file e
-head_refused seen file s o z e to b =
-    let here : HeadBad file 0 e to = subst (λ p. HeadBad file p e to) z (subst (λ f. HeadBad f o e to) s b) in
-    ap (λ q. unless q (decode_after file (header_of (head_at file 0)))) here.fault
-
 pub among : (m n : ℕ) (ys : List Task) → m ≡ n → ((k : ℕ) → k < length ys → TaskKept n (get_or ys k no_task)) → EachMember m ys
 among m n ys e each k lt = subst (λ x. (get_or ys k no_task).partition < x) (sym e) (each k lt).member
 
@@ -79,29 +67,17 @@ module _ (file : List ℕ) (h : Header) (to : ℕ) (ok : Headed file 0 h to) whe
   go : decode file ≡ decode_after file h
   go = ap (λ q. unless q (decode_after file (header_of (head_at file 0)))) ok.sound ∙ ap (decode_after file) (sym ok.is)
 
-  pub parts_refused : (e : Refusal) → RefusedRows partition_kind file h.partitions h.partitions 3 e → Refused file e
-  parts_refused e q = go ∙ then_err after_parts q
-
   module _ (xs : List Partition) (o₁ : ℕ) (hp : Held partition_kind file h.partitions h.partitions 3 xs o₁) where
     go₁ : decode file ≡ after_parts (o₁, hp.entries)
     go₁ = go ∙ then_ok after_parts hp.are
-
-    pub tasks_refused : (e : Refusal) → RefusedRows task_kind file h.partitions h.tasks o₁ e → Refused file e
-    tasks_refused e q = go₁ ∙ then_err (after_tasks (o₁, hp.entries)) q
 
     module _ (ys : List Task) (o₂ : ℕ) (ht : Held task_kind file h.partitions h.tasks o₁ ys o₂) where
       go₂ : decode file ≡ after_tasks (o₁, hp.entries) (o₂, ht.entries)
       go₂ = go₁ ∙ then_ok (after_tasks (o₁, hp.entries)) ht.are
 
-      pub links_refused : (e : Refusal) → RefusedRows link_kind file h.partitions h.links o₂ e → Refused file e
-      links_refused e q = go₂ ∙ then_err (ending (o₁, hp.entries) (o₂, ht.entries)) q
-
       module _ (zs : List Link) (o₃ : ℕ) (hl : Held link_kind file h.partitions h.links o₂ zs o₃) where
         go₃ : decode file ≡ ending (o₁, hp.entries) (o₂, ht.entries) (o₃, hl.entries)
         go₃ = go₂ ∙ then_ok (ending (o₁, hp.entries) (o₂, ht.entries)) hl.are
-
-        pub end_refused : (e : Refusal) → Unended file o₃ e → Refused file e
-        end_refused e u = go₃ ∙ ap (λ q. unless q (Ok (book_of (o₁, hp.entries) (o₂, ht.entries) (o₃, hl.entries)))) u
 
         pub accepted : AllBelowBase 256 file → Ended file o₃ → Accepted file (record { cores = h.cores; partitions = xs; tasks = ys; links = zs })
         accepted under u =

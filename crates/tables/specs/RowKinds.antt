@@ -1,5 +1,5 @@
 -- The three kinds of row. Assumes nothing.
-use Rattle.std.specs.Prelude.{ℕ, ◌+◌, ◌-◌, Bool, true, cond, not, ◌&&◌, ◌||◌, List, [], ◌∷◌, ◌++◌, map, length, None, ◌==◌, nat_le, nat_lt, slice_index_or}
+use Rattle.std.specs.Prelude.{ℕ, ◌-◌, Bool, true, not, ◌&&◌, ◌||◌, List, [], ◌∷◌, ◌++◌, map, length, None, ◌==◌, nat_le, nat_lt, slice_index_or}
 use Rattle.std.specs.List.{list_all, count_by}
 use Rattle.terms.specs.Checks.{within}
 use Rattle.terms.specs.Units.{amount, Picos, Requests}
