@@ -35,14 +35,14 @@ impl Row for Link {
         }
     }
 
-    fn fault(&self, at: usize, partitions: usize, before: &[Link]) -> Option<Refusal> {
+    fn check(&self, at: usize, partitions: usize, before: &[Link]) -> Result<(), Refusal> {
         if self.first >= partitions || self.second >= partitions {
-            return Some(Refusal::RowPartition { at });
+            return Err(Refusal::RowPartition { at });
         }
         if self.first < self.second && self.rises_after(before) {
-            None
+            Ok(())
         } else {
-            Some(Refusal::LinkOrder { at })
+            Err(Refusal::LinkOrder { at })
         }
     }
 

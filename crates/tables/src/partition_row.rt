@@ -28,11 +28,11 @@ impl Row for Partition {
         }
     }
 
-    fn fault(&self, at: usize, _partitions: usize, _before: &[Partition]) -> Option<Refusal> {
+    fn check(&self, at: usize, _partitions: usize, _before: &[Partition]) -> Result<(), Refusal> {
         if !is_within(SHORTEST_PERIOD, LONGEST_TIME, self.period.get()) {
-            return Some(Refusal::FieldRange { at });
+            return Err(Refusal::FieldRange { at });
         }
-        None
+        Ok(())
     }
 
     fn name_length(fixed: &[u8]) -> usize {

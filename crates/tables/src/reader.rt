@@ -67,9 +67,7 @@ impl<'a> Reader<'a> {
             return Err(Refusal::Incomplete { at });
         }
         let fixed = &file[at..at + width];
-        if let Some(refusal) = R::value(fixed).fault(at, partitions, before) {
-            return Err(refusal);
-        }
+        R::value(fixed).check(at, partitions, before)?;
         let length = R::name_length(fixed);
         if file.len() - at - width < length {
             return Err(Refusal::Incomplete { at });

@@ -69,17 +69,17 @@ impl Row for Task {
         }
     }
 
-    fn fault(&self, at: usize, partitions: usize, before: &[Task]) -> Option<Refusal> {
+    fn check(&self, at: usize, partitions: usize, before: &[Task]) -> Result<(), Refusal> {
         if !self.is_in_range() {
-            return Some(Refusal::FieldRange { at });
+            return Err(Refusal::FieldRange { at });
         }
         if self.partition >= partitions {
-            return Some(Refusal::RowPartition { at });
+            return Err(Refusal::RowPartition { at });
         }
         if count_in(self.partition, before) >= MOST_IN_PARTITION {
-            return Some(Refusal::PartitionFull { at });
+            return Err(Refusal::PartitionFull { at });
         }
-        None
+        Ok(())
     }
 
     fn name_length(fixed: &[u8]) -> usize {
