@@ -1,31 +1,29 @@
 -- What is in range in a sound row. Assumes nothing.
 use Rattle.std.proofs.Common.{◌≡◌, ℕ, zero, suc, ◌^◌, ◌<◌, ◌≤◌, Bool, true, not, ◌&&◌, leb, List, [], ◌∷◌, get_or, None, Option, arith}
 use Rattle.std.proofs.lemmas.Bool.{leb-true, leb-false, and_parts, not-false}
-use Rattle.terms.specs.Units.{Picos, Requests}
+use Rattle.std.specs.List.{list_all}
+use Rattle.terms.specs.Checks.{within}
+use Rattle.terms.specs.Units.{amount}
+use Rattle.terms.specs.declared.numbers.Amount.{Amount}
 use Rattle.terms.specs.declared.refusal.Refusal.{Refusal}
 use Rattle.terms.specs.declared.refusal.Refusal.TheVariants.{FieldRange, RowPartition, PartitionFull}
 use Rattle.tables.specs.declared.header.Header.{Header}
 use Rattle.tables.specs.declared.model.Partition.{Partition}
 use Rattle.tables.specs.declared.model.Task.{Task}
-use Rattle.tables.specs.Kinds.{all_pass, when, within}
+use Rattle.tables.specs.Kinds.{when}
 use Rattle.tables.specs.RowKinds.{partition_kind, task_kind, task_in_range, count_in}
 use Rattle.tables.specs.Contents.{header_in_range}
-use Rattle.tables.specs.Ranges.{Period, execution_on, requests_on, no_time, no_requests}
+use Rattle.tables.specs.Ranges.{Period, execution_on, requests_on}
 use Rattle.tables.proofs.Passed.{in_range}
 use Rattle.tables.proofs.Walk.{none_when}
 
 pub none_unless : (b : Bool) (f : Refusal) (q : Option Refusal) → when (not b) f q ≡ None → (b ≡ true) × (q ≡ None)
 none_unless b f q e = let p = none_when (not b) f q e in (not-false b p.0, p.1)
 
-pub times_within : (low high : ℕ) (xs : List Picos) → all_pass (λ x. within low high x.0) xs ≡ true → (q : ℕ) → (get_or xs q no_time).0 ≤ high
-times_within low high [] e q = omega arith
-times_within low high (x ∷ xs) e zero = (in_range low high x.0 (and_parts _ _ e).0).1
-times_within low high (x ∷ xs) e (suc q) = times_within low high xs (and_parts _ _ e).1 q
-
-counts_within : (low high : ℕ) (xs : List Requests) → all_pass (λ x. within low high x.0) xs ≡ true → (q : ℕ) → (get_or xs q no_requests).0 ≤ high
-counts_within low high [] e q = omega arith
-counts_within low high (x ∷ xs) e zero = (in_range low high x.0 (and_parts _ _ e).0).1
-counts_within low high (x ∷ xs) e (suc q) = counts_within low high xs (and_parts _ _ e).1 q
+all_within : {U : Type 0} (low high : ℕ) (xs : List (Amount U)) → list_all (λ x. within low high x.0) xs ≡ true → (q : ℕ) → (get_or xs q (amount 0)).0 ≤ high
+all_within low high [] e q = omega arith
+all_within low high (x ∷ xs) e zero = (in_range low high x.0 (and_parts _ _ e).0).1
+all_within low high (x ∷ xs) e (suc q) = all_within low high xs (and_parts _ _ e).1 q
 
 pub partition_kept : (o parts : ℕ) (before : List Partition) (p : Partition) → partition_kind.fault o parts before p ≡ None → Period p.period.0
 partition_kept o parts before p e = in_range _ _ _ (none_unless (within 1000000000 10000000000000 p.period.0) _ _ e).0
@@ -38,12 +36,12 @@ pub record TaskKept (parts : ℕ) (t : Task) : Type 0 where
 
 pub range_kept : (t : Task) → task_in_range t ≡ true → (Period t.period.0 × ((1 ≤ t.deadline.0) × (t.deadline.0 ≤ 10 ^ 13))) × ((q : ℕ) → (execution_on t q ≤ 10 ^ 13) × (requests_on t q ≤ 10 ^ 6))
 range_kept t e =
-    let times = all_pass (λ x. within 1 10000000000000 x.0) t.execution in
-    let counts = all_pass (λ x. within 0 1000000 x.0) t.requests in
+    let times = list_all (λ x. within 1 10000000000000 x.0) t.execution in
+    let counts = list_all (λ x. within 0 1000000 x.0) t.requests in
     let period = and_parts (within 1000000000 10000000000000 t.period.0) (within 1 10000000000000 t.deadline.0 && (times && counts)) e in
     let deadline = and_parts (within 1 10000000000000 t.deadline.0) (times && counts) period.1 in
     let jobs = and_parts times counts deadline.1 in
-    ((in_range _ _ _ period.0, in_range _ _ _ deadline.0), λ q. (times_within 1 10000000000000 t.execution jobs.0 q, counts_within 0 1000000 t.requests jobs.1 q))
+    ((in_range _ _ _ period.0, in_range _ _ _ deadline.0), λ q. (all_within 1 10000000000000 t.execution jobs.0 q, all_within 0 1000000 t.requests jobs.1 q))
 
 pub task_kept : (o parts : ℕ) (before : List Task) (t : Task) → task_kind.fault o parts before t ≡ None → TaskKept parts t
 task_kept o parts before t e =

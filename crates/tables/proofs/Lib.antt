@@ -1,4 +1,3 @@
-pub mod Replaced
 pub mod Passed
 pub mod Packing
 pub mod Unpacking

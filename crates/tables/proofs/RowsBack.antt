@@ -1,6 +1,7 @@
 -- Rows in range can be read back, and have no fault. Assumes nothing.
 use Rattle.std.proofs.Common.{◌≡◌, ℕ, ◌+◌, ◌-◌, ◌<◌, ◌≤◌, Bool, true, cond, not, eqb, List, [], ◌∷◌, ◌++◌, map, length, get_or, None, sym, refl, ap, ◌∙◌, subst, append_assoc, arith}
 use Rattle.std.specs.List.{AllByRecursion}
+use Rattle.std.proofs.lemmas.List.Sums.{sum_by-append, sum_by-cons}
 use Rattle.std.proofs.lemmas.List.{map_push, length_push, get_or_push}
 use Rattle.std.proofs.lemmas.Bool.{le-leb, lt-leb, lt-ltb, eq-eqb, and_from, or_from, or_right, not_from_true}
 use Rattle.terms.specs.Units.{Picos, Requests}
@@ -126,18 +127,17 @@ task_back parts few t name fits named =
     let is : t ≡ x = λ i. record { partition = t.partition; period = t.period; deadline = t.deadline; execution = c.4 i; requests = r.4 i } in
     subst (λ y. Back task_kind (y, name)) (sym is) (written_back t.partition t.period t.deadline c.0 c.1 c.2 c.3 r.0 r.1 r.2 r.3 name (omega (arith, fits.member)) (subst (λ y. task_in_range y ≡ true) is fits.range) named)
 
-count_append : (p : ℕ) (xs ys : List Task) → count_in p (xs ++ ys) ≡ count_in p xs + count_in p ys
-count_append p [] ys = omega arith
-count_append p (x ∷ xs) ys = omega (arith, count_append p xs ys)
-
 pub tasks_clear : (parts : ℕ) (ts : List Task) (ns : List (List ℕ)) (before : List (Task × List ℕ)) → AllByRecursion (TaskFits parts) ts → ((p : ℕ) → count_in p (map (λ x. x.0) before ++ ts) ≤ 16) → Clear task_kind parts before (paired ts ns)
 tasks_clear parts [] ns before h few = tt
 tasks_clear parts (t ∷ ts) [] before h few = tt
 tasks_clear parts (t ∷ ts) (n ∷ ns) before h few =
     let p = t.partition in
     let front = map (λ x. x.0) before in
+    let own_one : Task → ℕ = λ x. cond (eqb x.partition p) 1 0 in
     let own : ◌≡◌ {A = ℕ} (cond (eqb p p) 1 0) 1 = ap (λ (b : Bool). cond b 1 0) (eq-eqb p p refl) in
-    let room : count_in p front < 16 = omega (arith, few p, count_append p front (t ∷ ts), own) in
+    let split : count_in p (front ++ t ∷ ts) ≡ count_in p front + (cond (eqb p p) 1 0 + count_in p ts) =
+    sum_by-append own_one front (t ∷ ts) ∙ ap (λ n. count_in p front + n) (sum_by-cons own_one t ts) in
+    let room : count_in p front < 16 = omega (arith, few p, split, own) in
     let range = h.0.range in
     let member = lt-leb parts p h.0.member in
     let full = lt-leb 16 (count_in p front) room in

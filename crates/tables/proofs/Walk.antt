@@ -6,7 +6,7 @@ use Rattle.terms.specs.declared.refusal.Refusal.{Refusal}
 use Rattle.tables.specs.declared.file_row.FileRow.{FileRow}
 use Rattle.tables.specs.Kinds.{Kind, row_fault, fixed_at, name_at, end_at, rows_from, or_else, unless, when}
 use Rattle.tables.specs.Handed.{fixed_of}
-use Rattle.tables.specs.Answers.{Found, Bad, Held, RefusedRows}
+use Rattle.tables.specs.Answers.{Found, Bad, RefusedRows}
 
 pub never : {X : Type 0} {f : X} → Some f ≡ None → ⊥
 never e = let z : ◌≡◌ {A = ℕ} 0 1 = cc in omega arith
@@ -36,9 +36,6 @@ sound k file parts o before e =
 pub fixed_long : {R : Type 0} (k : Kind R) (file : List ℕ) (o : ℕ) → o + k.width ≤ length file → length (fixed_at k file o) ≡ k.width
 fixed_long k file o h = simp (length-take, length-drop) (omega arith)
 
-pub found_long : {R : Type 0} {k : Kind R} {file : List ℕ} {parts o : ℕ} {before : List R} {w : FileRow} {to : ℕ} → Found k file parts o before w to → length (fixed_of w) ≡ k.width
-found_long {R} {k} {file} {parts} {o} {before} f = ap length f.fixed ∙ fixed_long k file o (sound k file parts o before f.sound).fixed
-
 module _ {R : Type 0} (k : Kind R) (file : List ℕ) (parts n o : ℕ) (es : List (R × List ℕ)) where
   -- what one row does, where q is its fault
   abbrev pub after : Option Refusal → Result (ℕ × List (R × List ℕ)) (ℕ × ℕ)
@@ -53,9 +50,6 @@ pub record Sofar {R : Type 0} (k : Kind R) (file : List ℕ) (parts n o i : ℕ)
   pub inside : at ≤ length file
 
 module _ {R : Type 0} (k : Kind R) (file : List ℕ) (parts n o : ℕ) where
-  pub start : o ≤ length file → Sofar k file parts n o 0 file o []
-  start h = record { entries = []; same = refl; hold = refl; rest = ap (λ m. rows_from k file parts m o []) (omega arith); inside = h }
-
   -- what is left at a row, where its fault is q
   left : (i at : ℕ) (xs : List R) → i < n → (h : Sofar k file parts n o i file at xs) → (q : Option Refusal) → row_fault k file parts at xs ≡ q → after k file parts (n - (i + 1)) at h.entries q ≡ rows_from k file parts n o []
   left i at xs lt h q e =
@@ -84,11 +78,6 @@ module _ {R : Type 0} (k : Kind R) (file : List ℕ) (parts n o : ℕ) where
       let here : Sofar k file parts n o i file at xs = record { entries = h.entries; same = refl; hold = h.hold; rest = h.rest; inside = h.inside } in
       let there : Bad k file parts at xs e to = subst (λ s. Bad k s parts at xs e to) h.same (subst (λ z. Bad k seen parts at z e to) eq b) in
       sym (left i at xs lt here (Some e) there.fault)
-
-  pub ended : (i : ℕ) (seen : List ℕ) (at : ℕ) (xs : List R) → n ≤ i → Sofar k file parts n o i seen at xs → Held k file parts n o xs at
-  ended i seen at xs le h =
-      let none : n - i ≡ 0 = omega arith in
-      record { entries = h.entries; are = sym h.rest ∙ ap (λ m. rows_from k file parts m at h.entries) none; hold = h.hold; inside = h.inside }
 
 pub at_err : {X E : Type 0} {r : Result X E} (P : X → Type 0) (Q : E → Type 0) (y : E) → r ≡ Err y → Q y → MatchResult r P Q
 at_err P Q y e q = subst (λ r. MatchResult r P Q) (sym e) q

@@ -1,5 +1,7 @@
 -- Rows of the file, of any kind: which row is refused and why, and what a run of rows holds. Assumes nothing.
-use Rattle.std.specs.Prelude.{ℕ, zero, suc, ◌+◌, Bool, true, cond, not, ◌&&◌, List, [], ◌∷◌, ◌++◌, map, length, take, drop, Some, None, Ok, Err, Option, Result, nat_le, nat_lt}
+use Rattle.std.specs.Prelude.{ℕ, zero, suc, ◌+◌, Bool, cond, not, ◌&&◌, List, [], ◌∷◌, ◌++◌, map, length, take, drop, Some, None, Ok, Err, Option, Result, nat_lt}
+use Rattle.std.specs.List.{list_all}
+use Rattle.terms.specs.Checks.{within}
 use Rattle.terms.specs.declared.refusal.Refusal.{Refusal}
 use Rattle.terms.specs.declared.refusal.Refusal.TheVariants.{Incomplete, BadName}
 use Rattle.terms.specs.Refusals.{told}
@@ -21,16 +23,9 @@ pub record Kind (R : Type 0) : Type 0 where
   -- the fixed part of a row whose name is so long
   pub fixed : R → ℕ → List ℕ
 
-abbrev pub all_pass : {X : Type 0} → (X → Bool) → List X → Bool
-all_pass p [] = true
-all_pass p (x ∷ xs) = p x && all_pass p xs
-
-abbrev pub within : ℕ → ℕ → ℕ → Bool
-within low high n = nat_le low n && nat_le n high
-
 -- a name has a byte at least, and each from 33 to 126
 abbrev pub good_name : List ℕ → Bool
-good_name name = nat_lt 0 (length name) && all_pass (within 33 126) name
+good_name name = nat_lt 0 (length name) && list_all (within 33 126) name
 
 -- a fault where a test is met, else another
 abbrev pub when : Bool → Refusal → Option Refusal → Option Refusal

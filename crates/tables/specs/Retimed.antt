@@ -13,21 +13,21 @@ retimed x n = record { partition = x.partition; period = n.period; deadline = n.
 
 -- t has the numbers n
 pub record Timed (n : Numbers) (t : Timing) : Type 0 where
-  pub period : t.period ≡ n.period
-  pub deadline : t.deadline ≡ n.deadline
-  pub execution : t.execution ≡ n.execution
-  pub requests : t.requests ≡ n.requests
+  pub period : t.numbers.period ≡ n.period
+  pub deadline : t.numbers.deadline ≡ n.deadline
+  pub execution : t.numbers.execution ≡ n.execution
+  pub requests : t.numbers.requests ≡ n.requests
 
 -- a task with the numbers of a timing
 abbrev pub timed : Task → Timing → Task
-timed x t = record { partition = x.partition; period = t.period; deadline = t.deadline; execution = t.execution; requests = t.requests }
+timed x t = retimed x t.numbers
 
 -- t has the numbers of the task x
 pub record Former (x : Task) (t : Timing) : Type 0 where
-  pub period : t.period ≡ x.period
-  pub deadline : t.deadline ≡ x.deadline
-  pub execution : t.execution ≡ x.execution
-  pub requests : t.requests ≡ x.requests
+  pub period : t.numbers.period ≡ x.period
+  pub deadline : t.numbers.deadline ≡ x.deadline
+  pub execution : t.numbers.execution ≡ x.execution
+  pub requests : t.numbers.requests ≡ x.requests
 
 -- where there is such a task it has the numbers of t then, and its former ones are told; else nothing changes
 abbrev pub Retimes : Tabled → ℕ → Timing → Option Timing → Tabled → Type 0

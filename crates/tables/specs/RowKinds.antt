@@ -1,5 +1,7 @@
 -- The three kinds of row. Assumes nothing.
-use Rattle.std.specs.Prelude.{ℕ, ◌+◌, ◌-◌, Bool, true, cond, not, ◌&&◌, ◌||◌, List, [], ◌∷◌, ◌++◌, map, length, None, ◌==◌, nat_le, nat_lt, slice_index_or}
+use Rattle.std.specs.Prelude.{ℕ, ◌-◌, Bool, true, not, ◌&&◌, ◌||◌, List, [], ◌∷◌, ◌++◌, map, length, None, ◌==◌, nat_le, nat_lt, slice_index_or}
+use Rattle.std.specs.List.{list_all, count_by}
+use Rattle.terms.specs.Checks.{within}
 use Rattle.terms.specs.Units.{amount, Picos, Requests}
 use Rattle.terms.specs.declared.refusal.Refusal.TheVariants.{FieldRange, RowPartition, LinkOrder, PartitionFull}
 use Rattle.tables.specs.declared.model.Partition.{Partition}
@@ -7,7 +9,7 @@ use Rattle.tables.specs.declared.model.Task.{Task}
 use Rattle.tables.specs.declared.model.Link.{Link}
 use Rattle.tables.specs.Packed.{bits_at, pack, octets}
 use Rattle.tables.specs.Handed.{is_partition_row, is_task_row, is_link_row}
-use Rattle.tables.specs.Kinds.{Kind, good_name, all_pass, within, when}
+use Rattle.tables.specs.Kinds.{Kind, good_name, when}
 
 abbrev pub as_picos : ℕ → Picos
 as_picos n = amount n
@@ -50,13 +52,12 @@ abbrev pub task_in_range : Task → Bool
 task_in_range t =
     within 1000000000 10000000000000 t.period.0
     && (within 1 10000000000000 t.deadline.0
-    && (all_pass (λ x. within 1 10000000000000 x.0) t.execution
-    && all_pass (λ x. within 0 1000000 x.0) t.requests))
+    && (list_all (λ x. within 1 10000000000000 x.0) t.execution
+    && list_all (λ x. within 0 1000000 x.0) t.requests))
 
 -- how many of these tasks are of partition p
 abbrev pub count_in : ℕ → List Task → ℕ
-count_in p [] = 0
-count_in p (t ∷ ts) = cond (t.partition == p) 1 0 + count_in p ts
+count_in p ts = count_by (λ t. t.partition == p) ts
 
 -- the numbers of a task in the order of its fields
 abbrev pub task_fields : Task → List ℕ

@@ -28,9 +28,8 @@ impl<'a> FileRow<'a> {
         ensures { result ≡ offset_of self.now }
     {
         match self {
-            FileRow::Partition { at, .. } => *at,
-            FileRow::Task { at, .. } => *at,
-            FileRow::Link { at, .. } => *at,
+            FileRow::Partition { at, .. } | FileRow::Task { at, .. } | FileRow::Link { at, .. } =>
+                *at,
         }
     }
 
@@ -39,9 +38,9 @@ impl<'a> FileRow<'a> {
         ensures { result.now ≡ fixed_of self.now }
     {
         match self {
-            FileRow::Partition { fixed, .. } => fixed,
-            FileRow::Task { fixed, .. } => fixed,
-            FileRow::Link { fixed, .. } => fixed,
+            FileRow::Partition { fixed, .. }
+            | FileRow::Task { fixed, .. }
+            | FileRow::Link { fixed, .. } => fixed,
         }
     }
 
@@ -50,8 +49,7 @@ impl<'a> FileRow<'a> {
         ensures { option_map (λ x. x.now) result ≡ name_in self.now }
     {
         match self {
-            FileRow::Partition { name, .. } => Some(name),
-            FileRow::Task { name, .. } => Some(name),
+            FileRow::Partition { name, .. } | FileRow::Task { name, .. } => Some(name),
             FileRow::Link { .. } => None,
         }
     }

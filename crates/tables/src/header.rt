@@ -1,5 +1,5 @@
 //! The header: the cores in 3 bits, how many partitions in 5, tasks in 7 and links in 7, and two spare bits.
-ghost use Rattle.std.specs.Prelude.{◌≡◌, length};
+ghost use Rattle.std.specs.Prelude.{◌≡◌};
 ghost use Rattle.tables.specs.Contents.{header_of, header_in_range};
 
 use super::bits::bits_at;
@@ -21,8 +21,7 @@ impl Header {
     pub const WIDTH: usize = 3;
 
     /// The header in these bytes, without the spare bits.
-    pub(super) fn of(bytes: &[u8]) -> Header
-        requires { length bytes.now ≡ 3 }
+    pub(super) fn of(bytes: &[u8; Header::WIDTH]) -> Header
         ensures { result ≡ header_of bytes.now }
     {
         Header {

@@ -1,6 +1,6 @@
 //! The rows of links: two partitions in 4 bits each, and no name.
 ghost use Rattle.std.specs.Prelude.{◌≡◌};
-ghost use Rattle.tables.specs.RowKinds.{link_kind, comes_before, rises};
+ghost use Rattle.tables.specs.RowKinds.{link_kind, rises};
 
 use super::bits::bits_at;
 use super::file_row::FileRow;
@@ -9,21 +9,11 @@ use super::row::Row;
 use terms::refusal::Refusal;
 
 impl Link {
-    /// Whether the pair of this link comes before that of another.
-    fn is_below(&self, other: &Link) -> bool
-        ensures { result ≡ comes_before self.now other.now }
-    {
-        self.first < other.first || self.first == other.first && self.second < other.second
-    }
-
     /// Whether the last of these links, if there is one, comes before this one.
     fn rises_after(&self, before: &[Link]) -> bool
         ensures { result ≡ rises before.now self.now }
     {
-        if before.len() == 0 {
-            return true;
-        }
-        before[before.len() - 1].is_below(self)
+        before.last().is_none_or(|last| last < self)
     }
 }
 
@@ -45,14 +35,14 @@ impl Row for Link {
         }
     }
 
-    fn fault(&self, at: usize, partitions: usize, before: &[Link]) -> Option<Refusal> {
+    fn check(&self, at: usize, partitions: usize, before: &[Link]) -> Result<(), Refusal> {
         if self.first >= partitions || self.second >= partitions {
-            return Some(Refusal::RowPartition { at });
+            return Err(Refusal::RowPartition { at });
         }
         if self.first < self.second && self.rises_after(before) {
-            None
+            Ok(())
         } else {
-            Some(Refusal::LinkOrder { at })
+            Err(Refusal::LinkOrder { at })
         }
     }
 

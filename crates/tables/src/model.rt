@@ -18,8 +18,8 @@ pub struct Task {
     pub requests: [Requests; 4],
 }
 
-/// A link: two partitions that exchange data.
-#[derive(Clone, Copy, Debug, PartialEq, Eq)]
+/// A link: two partitions that exchange data. Links are ordered by their pairs.
+#[derive(Clone, Copy, Debug, PartialEq, Eq, PartialOrd, Ord)]
 pub struct Link {
     pub first: usize,
     pub second: usize,

@@ -6,10 +6,5 @@ ghost use Rattle.tables.specs.Kinds.{good_name};
 pub fn is_good_name(name: &[u8]) -> bool
     ensures { result ≡ good_name name.now }
 {
-    for &b in name {
-        if b < 33 || b > 126 {
-            return false;
-        }
-    }
-    name.len() > 0
+    !name.is_empty() && name.iter().all(u8::is_ascii_graphic)
 }

@@ -5,8 +5,9 @@ use super::bits::bits_at;
 use super::file_row::FileRow;
 use super::model::Partition;
 use super::names::is_good_name;
-use super::ranges::{LONGEST_TIME, SHORTEST_PERIOD, is_within};
+use super::ranges::{LONGEST_TIME, SHORTEST_PERIOD};
 use super::row::Row;
+use terms::checks::is_within;
 use terms::numbers::Picos;
 use terms::refusal::Refusal;
 
@@ -27,11 +28,11 @@ impl Row for Partition {
         }
     }
 
-    fn fault(&self, at: usize, _partitions: usize, _before: &[Partition]) -> Option<Refusal> {
+    fn check(&self, at: usize, _partitions: usize, _before: &[Partition]) -> Result<(), Refusal> {
         if !is_within(SHORTEST_PERIOD, LONGEST_TIME, self.period.get()) {
-            return Some(Refusal::FieldRange { at });
+            return Err(Refusal::FieldRange { at });
         }
-        None
+        Ok(())
     }
 
     fn name_length(fixed: &[u8]) -> usize {

@@ -37,16 +37,14 @@ impl<'a> Reader<'a> {
         ensures cases { MatchResult result (λ h. Headed self.old.file.now self.old.at h self.new.at) (λ e. HeadBad self.old.file.now self.old.at e self.new.at) }
     {
         let at = self.at;
-        let file = self.file;
-        if file.len() - at < Header::WIDTH {
-            return Err(Refusal::Incomplete { at });
-        }
-        let bytes = &file[at..at + Header::WIDTH];
+        let bytes = self.file[at..]
+            .first_chunk()
+            .ok_or(Refusal::Incomplete { at })?;
         let header = Header::of(bytes);
         if !header.is_in_range() || bits_at(bytes, 22, 2) != 0 {
             return Err(Refusal::FieldRange { at });
         }
-        self.at = at + Header::WIDTH;
+        self.at += Header::WIDTH;
         Ok(header)
     }
 
@@ -61,24 +59,17 @@ impl<'a> Reader<'a> {
         ensures cases { MatchResult result (λ w. Found R.Row.kind self.old.file.now partitions self.old.at before.now w self.new.at) (λ e. Bad R.Row.kind self.old.file.now partitions self.old.at before.now e self.new.at) }
     {
         let at = self.at;
-        let file = self.file;
-        let width = R::fixed_width();
-        if file.len() - at < width {
-            return Err(Refusal::Incomplete { at });
-        }
-        let fixed = &file[at..at + width];
-        if let Some(refusal) = R::value(fixed).fault(at, partitions, before) {
-            return Err(refusal);
-        }
-        let length = R::name_length(fixed);
-        if file.len() - at - width < length {
-            return Err(Refusal::Incomplete { at });
-        }
-        let name = &file[at + width..at + width + length];
+        let (fixed, rest) = self.file[at..]
+            .split_at_checked(R::fixed_width())
+            .ok_or(Refusal::Incomplete { at })?;
+        R::value(fixed).check(at, partitions, before)?;
+        let (name, _) = rest
+            .split_at_checked(R::name_length(fixed))
+            .ok_or(Refusal::Incomplete { at })?;
         if !R::is_name(name) {
             return Err(Refusal::BadName { at });
         }
-        self.at = at + width + length;
+        self.at += fixed.len() + name.len();
         Ok(R::handed(at, fixed, name))
     }
 

@@ -1,5 +1,5 @@
 //! What the reader asks of a kind of row.
-ghost use Rattle.std.specs.Prelude.{◌≡◌, true, length};
+ghost use Rattle.std.specs.Prelude.{◌≡◌, true, length, Some, None, MatchResult};
 ghost use Rattle.tables.specs.Kinds.{Kind};
 ghost use Rattle.tables.specs.Handed.{fixed_of, name_of, offset_of};
 
@@ -25,9 +25,10 @@ pub trait Row: Sized {
         requires { length fixed.now ≡ kind.width }
         ensures { result ≡ kind.value fixed.now };
 
-    /// What is wrong with the row at this offset, where there are so many partitions and `before` are the rows before it.
-    fn fault(&self, at: usize, partitions: usize, before: &[Self]) -> Option<Refusal>
-        ensures { result ≡ kind.fault at partitions before.now self.now };
+    /// Refuses the row at this offset for its fault, where there are so many partitions and `before` are the rows before
+    /// it.
+    fn check(&self, at: usize, partitions: usize, before: &[Self]) -> Result<(), Refusal>
+        ensures { MatchResult result (λ _. kind.fault at partitions before.now self.now ≡ None) (λ e. kind.fault at partitions before.now self.now ≡ Some e) };
 
     /// The length of the name that follows a fixed part.
     fn name_length(fixed: &[u8]) -> usize

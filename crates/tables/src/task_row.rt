@@ -7,10 +7,9 @@ use super::bits::bits_at;
 use super::file_row::FileRow;
 use super::model::Task;
 use super::names::is_good_name;
-use super::ranges::{
-    LONGEST_TIME, MOST_REQUESTS, SHORTEST_PERIOD, are_counts_within, are_times_within, is_within,
-};
+use super::ranges::{LONGEST_TIME, MOST_REQUESTS, SHORTEST_PERIOD, are_within};
 use super::row::Row;
+use terms::checks::is_within;
 use terms::numbers::{Picos, Requests};
 use terms::refusal::Refusal;
 
@@ -24,8 +23,8 @@ impl Task {
     {
         is_within(SHORTEST_PERIOD, LONGEST_TIME, self.period.get())
             && is_within(1, LONGEST_TIME, self.deadline.get())
-            && are_times_within(1, LONGEST_TIME, &self.execution)
-            && are_counts_within(MOST_REQUESTS, &self.requests)
+            && are_within(1, LONGEST_TIME, &self.execution)
+            && are_within(0, MOST_REQUESTS, &self.requests)
     }
 }
 
@@ -33,13 +32,10 @@ impl Task {
 fn count_in(partition: usize, tasks: &[Task]) -> usize
     ensures { result ≡ count_in partition tasks.now }
 {
-    let mut n: usize = 0;
-    for task in tasks {
-        if task.partition == partition {
-            n += 1;
-        }
-    }
-    n
+    tasks
+        .iter()
+        .filter(|task| task.partition == partition)
+        .count()
 }
 
 impl Row for Task {
@@ -73,17 +69,17 @@ impl Row for Task {
         }
     }
 
-    fn fault(&self, at: usize, partitions: usize, before: &[Task]) -> Option<Refusal> {
+    fn check(&self, at: usize, partitions: usize, before: &[Task]) -> Result<(), Refusal> {
         if !self.is_in_range() {
-            return Some(Refusal::FieldRange { at });
+            return Err(Refusal::FieldRange { at });
         }
         if self.partition >= partitions {
-            return Some(Refusal::RowPartition { at });
+            return Err(Refusal::RowPartition { at });
         }
         if count_in(self.partition, before) >= MOST_IN_PARTITION {
-            return Some(Refusal::PartitionFull { at });
+            return Err(Refusal::PartitionFull { at });
         }
-        None
+        Ok(())
     }
 
     fn name_length(fixed: &[u8]) -> usize {

@@ -39,11 +39,6 @@ impl Timing {
         if let Some(position) = numbers.first_out_of_range() {
             return Err(Refusal::NumberRange { position });
         }
-        Ok(Timing {
-            period: numbers.period,
-            deadline: numbers.deadline,
-            execution: numbers.execution,
-            requests: numbers.requests,
-        })
+        Ok(Timing { numbers })
     }
 }

@@ -5,6 +5,7 @@ ghost use Rattle.tables.specs.Retimed.{Retimes, Former, timed};
 ghost use Rattle.tables.specs.Tabled.{tabled};
 
 use super::super::model::Task;
+use super::super::numbers::Numbers;
 use super::super::timing::Timing;
 use super::Tables;
 
@@ -13,12 +14,8 @@ impl Tables {
     pub fn retime(&mut self, task: usize, timing: Timing) -> Option<Timing>
         ensures { Retimes (tabled self.old) task timing result (tabled self.new) }
     {
-        if task >= self.tasks.len() {
-            return None;
-        }
-        let former = self.tasks[task];
-        let next = with_timing(former, timing);
-        self.tasks[task] = next;
+        let former = self.tasks.get(task).copied()?;
+        self.tasks[task] = with_timing(former, timing);
         Some(timing_of(former))
     }
 }
@@ -27,12 +24,16 @@ impl Tables {
 fn with_timing(task: Task, timing: Timing) -> Task
     ensures { result ≡ timed task timing }
 {
-    let execution = timing.execution;
-    let requests = timing.requests;
+    let Numbers {
+        period,
+        deadline,
+        execution,
+        requests,
+    } = timing.numbers;
     Task {
         partition: task.partition,
-        period: timing.period,
-        deadline: timing.deadline,
+        period,
+        deadline,
         execution,
         requests,
     }
@@ -44,12 +45,18 @@ fn timing_of(task: Task) -> Timing
     requires job { (q : ℕ) → (execution_on task q ≤ 10 ^ 13) × (requests_on task q ≤ 10 ^ 6) }
     ensures { Former task result }
 {
-    let execution = task.execution;
-    let requests = task.requests;
-    Timing {
-        period: task.period,
-        deadline: task.deadline,
+    let Task {
+        period,
+        deadline,
         execution,
         requests,
-    }
+        ..
+    } = task;
+    let numbers = Numbers {
+        period,
+        deadline,
+        execution,
+        requests,
+    };
+    Timing { numbers }
 }

@@ -1,13 +1,8 @@
-use Rattle.std.proofs.Common.{[], ◌∷◌, ◌++◌, length, vec_items, sym, ap, ◌∙◌, subst, arith}
+use Rattle.std.proofs.Common.{[], ◌∷◌, ◌++◌, vec_items, sym, ap, ◌∙◌, subst, arith}
 use Rattle.std.proofs.lemmas.Result.{err_from_is_err_and}
 use Rattle.tables.specs.Answers.{RefusedRows}
-use Rattle.tables.proofs.Walk.{Sofar, start, stepped, badly, ended, at_err, found_long}
+use Rattle.tables.proofs.Walk.{stepped, badly, at_err}
 use Rattle.tables.proofs.first_bad.rows.Goals as goal
-
-pub loop-init : goal.loop-init
-loop-init g c =
-    let none = c.requires.empty in
-    (subst (λ xs. Sofar g.R.Row.kind c.args.reader.now.file.now c.args.partitions c.args.count c.args.reader.now.at 0 c.args.reader.now.file.now c.args.reader.now.at xs) (sym none) (start _ _ _ _ _ c.args.reader.now.ok), c.requires.none, c.requires.wide)
 
 pub returns-in_err-row : goal.returns-in_err-row
 returns-in_err-row g c =
@@ -18,9 +13,6 @@ returns-in_err-row g c =
       cases = at_err _ _ p.0 p.1 (subst (RefusedRows g.R.Row.kind c.args.reader.now.file.now c.args.partitions c.args.count c.args.reader.now.at) (sym p.2) (badly _ _ _ _ _ _ _ _ _ _ _ _ c.loop-test.true c.loop.invariant.0 told.cases c.as_slice.ensures.value));
     }
 
-pub value-requires : goal.value-requires
-value-requires g c = ap length c.fixed.ensures ∙ found_long c.in_ok-row.ensures.cases
-
 pub loop-preserved : goal.loop-preserved
 loop-preserved g c =
     let told = c.in_ok-row.ensures in
@@ -30,6 +22,3 @@ loop-preserved g c =
       omega arith,
       omega arith,
     )
-
-pub returns : goal.returns
-returns g c = record { file = c.loop.invariant.0.same; cases = ended _ _ _ _ _ _ _ _ _ c.loop-test.false c.loop.invariant.0 }
