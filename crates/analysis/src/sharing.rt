@@ -4,11 +4,10 @@ ghost use Rattle.analysis.specs.Placed.{sharing_of};
 
 use super::placement::Placement;
 use arbiter::question::Sharing;
-use tables::held::Tables;
 use tables::model::Link;
 
 /// The cores that share by some links: those of the partitions that a link joins, if both are placed.
-fn joined_by(links: &[Link], placement: &Placement) -> Sharing
+pub(crate) fn joined_by(links: &[Link], placement: &Placement) -> Sharing
     ensures { result ≡ sharing_of placement.now.cores links.now }
 {
     let mut sharing = Sharing::NONE;
@@ -20,11 +19,4 @@ fn joined_by(links: &[Link], placement: &Placement) -> Sharing
         }
     }
     sharing
-}
-
-/// Two cores share when a link joins partitions placed on them, one on each.
-pub(crate) fn sharing_of(tables: &Tables, placement: &Placement) -> Sharing
-    ensures { result ≡ sharing_of placement.now.cores tables.now.links.items }
-{
-    joined_by(tables.links(), placement)
 }

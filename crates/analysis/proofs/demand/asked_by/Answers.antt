@@ -2,15 +2,8 @@ use Rattle.std.proofs.Common.{◌≡◌, ℕ, ◌+◌, List, length, subst, arit
 use Rattle.terms.specs.Cores.{number_of}
 use Rattle.tables.specs.declared.model.Task.{Task}
 use Rattle.analysis.proofs.Asking.{Asking, asking_aside, asking_ahead, asking_other, moved}
-use Rattle.analysis.proofs.Shares.{fit_at}
 use Rattle.analysis.proofs.demand.asked_by.Goals as goal
 use Rattle.analysis.proofs.demand.asked_by.Goals.{in-Ahead, in-Other, in-Aside}
-
-pub own_share-share-requires : goal.own_share-share-requires
-own_share-share-requires c = record { fit = fit_at _ c.tasks-tasks.result.now c.loop-k.k c.tasks-tasks.ensures.sound c.loop-k-test.true; time = c.requires }
-
-pub other_share-requires : goal.other_share-requires
-other_share-requires c = record { fit = fit_at _ c.tasks-tasks.result.now c.loop-k.k c.tasks-tasks.ensures.sound c.loop-k-test.true; time = c.requires }
 
 pub add_assign-requires : goal.add_assign-requires
 add_assign-requires c = let few = c.tasks-tasks.ensures.sound.few in omega (arith, c.own_share-share.ensures.small.0)
@@ -28,7 +21,7 @@ loop-k-preserved c =
     let tasks = c.tasks-tasks.result.now in
     let roles = c.args.roles.now.of in
     let p = number_of c.args.p in
-    let t = c.args.t.0 in
+    let t = c.args.t.t.0 in
     let k = c.loop-k.k in
     let e = c.loop-k.execution in
     let r = c.loop-k.requests in
@@ -51,7 +44,7 @@ pub returns : goal.returns
 returns c =
     let roles = c.args.roles.now.of in
     let p = number_of c.args.p in
-    let t = c.args.t.0 in
+    let t = c.args.t.t.0 in
     let inv = c.loop-k.invariant in
     let all : c.loop-k.k ≡ length c.tasks-tasks.result.now = omega arith in
     let done = subst (λ (xs : List Task). Asking xs roles p t (length xs) c.loop-k.execution c.loop-k.requests c.loop-k.others) c.tasks-tasks.ensures.is
