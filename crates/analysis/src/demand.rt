@@ -140,10 +140,7 @@ fn asked_by(tables: &Tables, roles: &Roles, p: Core, t: Reckoned) -> Asked
                 requests += share.requests;
             }
             Role::Other(q) => {
-                let n = usize::from(q);
-                let mut sum = others[n];
-                sum += x.other_share(q, t);
-                others[n] = sum;
+                others[usize::from(q)] += x.other_share(q, t);
             }
             Role::Aside => {}
         }

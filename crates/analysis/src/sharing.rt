@@ -12,10 +12,9 @@ pub(crate) fn joined_by(links: &[Link], placement: &Placement) -> Sharing
 {
     let mut sharing = Sharing::NONE;
     for link in links {
-        if let Some(a) = placement.core_of(link.first) {
-            if let Some(b) = placement.core_of(link.second) {
-                sharing.join(a, b);
-            }
+        let ends = (placement.core_of(link.first), placement.core_of(link.second));
+        if let (Some(a), Some(b)) = ends {
+            sharing.join(a, b);
         }
     }
     sharing

@@ -14,7 +14,7 @@ add_assign-requires-in-Ahead c = let few = c.tasks-tasks.ensures.sound.few in om
 pub add_assign-requires-in-Other : goal.add_assign-requires-in-Other
 add_assign-requires-in-Other c =
     let few = c.tasks-tasks.ensures.sound.few in
-    omega (arith, c.other_share.ensures.small, c.loop-k.invariant.each_few c.from-n.result c.from-n.ensures.1)
+    omega (arith, c.other_share.ensures.small, c.loop-k.invariant.each_few c.from.result c.from.ensures.1)
 
 pub loop-k-preserved : goal.loop-k-preserved
 loop-k-preserved c =
@@ -35,7 +35,7 @@ loop-k-preserved c =
           share.ensures.execution share.ensures.requests w.add_assign.ensures.after w.add_assign-in-Ahead.ensures.after share.ensures.small.0 share.ensures.small.1)
       | in-Other w ↦
           moved tasks roles p t (k + 1) _ _ _ _ _ _ w.execution-is w.requests-is w.others-is
-          (asking_other tasks roles p t k e r o inv w.in-Other.q w.other_share.result.0 w.from-n.result w.add_assign-in-Other.new.self w.in-Other.ensures w.from-n.ensures.0 w.from-n.ensures.1
+          (asking_other tasks roles p t k e r o inv w.in-Other.q w.other_share.result.0 w.from.result w.add_assign-in-Other.new.self w.in-Other.ensures w.from.ensures.0 w.from.ensures.1
           w.other_share.ensures.is w.add_assign-in-Other.ensures.after w.other_share.ensures.small)
       | in-Aside w ↦ moved tasks roles p t (k + 1) _ _ _ _ _ _ w.execution-is w.requests-is w.others-is (asking_aside tasks roles p t k e r o inv w.in-Aside.ensures)
     ]
