@@ -21,11 +21,7 @@ impl Ranged<'_> {
     {
         let n = t.t.get();
         let by = self.task.period.get();
-        if 0 < n && n <= by {
-            1
-        } else {
-            n.div_ceil(by)
-        }
+        if 0 < n && n <= by { 1 } else { n.div_ceil(by) }
     }
 
     // two functions: which jobs of a task of the same partition count, and which of one on another core, are two questions

@@ -12,8 +12,10 @@ pub(crate) fn joined_by(links: &[Link], placement: &Placement) -> Sharing
 {
     let mut sharing = Sharing::NONE;
     for link in links {
-        let ends = (placement.core_of(link.first), placement.core_of(link.second));
-        if let (Some(a), Some(b)) = ends {
+        let ends = placement
+            .core_of(link.first)
+            .zip(placement.core_of(link.second));
+        if let Some((a, b)) = ends {
             sharing.join(a, b);
         }
     }

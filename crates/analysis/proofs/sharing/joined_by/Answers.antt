@@ -1,11 +1,10 @@
-use Rattle.std.proofs.Common.{◌≡◌, None, Option, rules, sym, refl, ap, ◌∙◌, take_all}
+use Rattle.std.proofs.Common.{sym, refl, ap, ◌∙◌, take_all}
 use Rattle.terms.specs.Cores.{number_of}
-use Rattle.terms.specs.declared.cores.Core.{Core}
 use Rattle.arbiter.specs.Questions.{joined}
 use Rattle.analysis.specs.Placed.{sharing_of}
-use Rattle.analysis.proofs.Joins.{sharing_joined, sharing_passed, across_first, across_second}
+use Rattle.analysis.proofs.Joins.{sharing_joined, sharing_passed}
 use Rattle.analysis.proofs.sharing.joined_by.Goals as goal
-use Rattle.analysis.proofs.sharing.joined_by.Goals.{in-Some-Some, in-Some+in-None-1, in-None-1}
+use Rattle.analysis.proofs.sharing.joined_by.Goals.{in-Some, in_default}
 
 pub loop-link-init : goal.loop-link-init
 loop-link-init c = refl
@@ -15,18 +14,14 @@ loop-link-preserved c =
     let cores = c.args.placement.now.cores in
     let links = c.args.links.now in
     let k = c.loop-link.link-index in
+    let ends = sym c.zip-ends.ensures in
     elim c.match-ends.branch [
-      | in-Some-Some w ↦
-          w.sharing-is ∙ w.join.ensures ∙ ap (λ s. joined s (number_of w.in-Some-Some.a) (number_of w.in-Some-Some.b)) c.loop-link.invariant
-          ∙ sym (sharing_joined cores links k c.loop-link-test.true w.in-Some-Some.a w.in-Some-Some.b (sym c.core_of.ensures ∙ w.in-Some-Some.is-0) (sym c.core_of-in-loop-link.ensures ∙ w.in-Some-Some.is-1))
-      | in-Some+in-None-1 w ↦
-          let none : ◌≡◌ {A = Option Core} c.core_of-in-loop-link.result None = search rules in
+      | in-Some w ↦
+          w.sharing-is ∙ w.join.ensures ∙ ap (λ s. joined s (number_of w.in-Some.a) (number_of w.in-Some.b)) c.loop-link.invariant
+          ∙ sym (sharing_joined cores links k c.loop-link-test.true w.in-Some.a w.in-Some.b (rw (c.core_of.ensures, c.core_of-in-loop-link.ensures) at (ends ∙ w.in-Some.is)))
+      | in_default w ↦
           w.sharing-is ∙ c.loop-link.invariant
-          ∙ sym (sharing_passed cores links k c.loop-link-test.true (λ p q. across_second p q _ _ (sym c.core_of-in-loop-link.ensures ∙ none)))
-      | in-None-1 w ↦
-          let none : ◌≡◌ {A = Option Core} c.core_of.result None = search rules in
-          w.sharing-is ∙ c.loop-link.invariant
-          ∙ sym (sharing_passed cores links k c.loop-link-test.true (λ p q. across_first p q _ _ (sym c.core_of.ensures ∙ none)))
+          ∙ sym (sharing_passed cores links k c.loop-link-test.true (rw (c.core_of.ensures, c.core_of-in-loop-link.ensures) at (ends ∙ w.in_default.is)))
     ]
 
 pub returns : goal.returns
