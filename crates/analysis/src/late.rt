@@ -1,11 +1,13 @@
 //! The first late task.
-ghost use Rattle.std.specs.Prelude.{◌≡◌, ℕ};
+ghost use Rattle.std.specs.Prelude.{◌≡◌, ℕ, Some, None, MatchResult};
+ghost use Rattle.terms.specs.Refusals.{told};
 ghost use Rattle.analysis.specs.Demand.{state_of_placed};
 ghost use Rattle.analysis.specs.Times.{FirstLate};
 
 use super::placed::Placed;
 use super::reckoned::Reckoned;
 use arbiter::arbiter::Arbiter;
+use terms::refusal::Refusal;
 
 impl Placed<'_> {
     /// The first placed task, in priority order, that has no fixed point of its demand within its limit.
@@ -28,5 +30,15 @@ impl Placed<'_> {
             return Some(i);
         }
         None
+    }
+
+    /// Whether every placed task is in time; refused where one is late, with the first.
+    pub fn in_time<B: Arbiter>(&self, arbiter: &B) -> Result<(), Refusal>
+        ensures { MatchResult result (λ _. FirstLate (B.bound arbiter.now) (state_of_placed self.now) None) (λ e. (k : ℕ) × (told e ≡ (15, k)) × FirstLate (B.bound arbiter.now) (state_of_placed self.now) (Some k)) }
+    {
+        match self.first_late(arbiter) {
+            Some(task) => Err(Refusal::Late { task }),
+            None => Ok(()),
+        }
     }
 }

@@ -5,7 +5,7 @@ ghost use Rattle.plan.specs.Calls.{Call, Allocates, replaced, adopt_asks, place_
 
 use super::adoption::allocation;
 use super::plan::Plan;
-use analysis::late::first_late;
+use analysis::placed::Placed;
 use analysis::placement::Placement;
 use arbiter::arbiter::Arbiter;
 use terms::cores::Core;
@@ -16,13 +16,9 @@ impl Plan {
     fn settle<B: Arbiter>(&mut self, next: Placement, arbiter: &B) -> Result<(), Refusal>
         ensures { Call (B.bound arbiter.now) (state_of self.old) (Ok (replaced (state_of self.old) next.cores)) result (state_of self.new) }
     {
-        match first_late(&self.tables, &next, arbiter) {
-            Some(task) => Err(Refusal::Late { task }),
-            None => {
-                self.placement = next;
-                Ok(())
-            }
-        }
+        Placed::new(&self.tables, &next).in_time(arbiter)?;
+        self.placement = next;
+        Ok(())
     }
 
     /// Replaces all placements by an allocation: for each partition the number of a core, or 255 for unplaced.
