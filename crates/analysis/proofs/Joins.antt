@@ -1,6 +1,7 @@
 -- Links, one more at a time. Assumes nothing.
 use Rattle.std.proofs.Common.{◌≡◌, ℕ, ◌+◌, ◌<◌, Bool, true, false, ◌||◌, List, [], ◌∷◌, ◌++◌, length, get_or, take, Some, None, Option, refl, ap, ◌∙◌}
 use Rattle.std.proofs.lemmas.List.{take_more}
+use Rattle.std.specs.Option.{option_zip}
 use Rattle.terms.specs.Cores.{number_of}
 use Rattle.terms.specs.declared.cores.Core.{Core}
 use Rattle.arbiter.specs.Questions.{joined, pair}
@@ -20,12 +21,15 @@ any_more test (y ∷ ys) x = ap (λ b. test y || b) (any_more test ys x) ∙ or_
 abbrev no_link : Link
 no_link = record { first = 0; second = 0 }
 
-pub across_first : (p q : ℕ) (a b : Option Core) → a ≡ None → across p q a b ≡ false
-across_first p q a b e = ap (λ x. across p q x b) e
+-- whether two partitions with these cores are placed on cores p and q, one on each, if both are placed
+abbrev on_both : ℕ → ℕ → Option (Core × Core) → Bool
+on_both p q None = false
+on_both p q (Some ends) = pair p q (number_of ends.0) (number_of ends.1)
 
-pub across_second : (p q : ℕ) (a b : Option Core) → b ≡ None → across p q a b ≡ false
-across_second p q None b e = refl
-across_second p q (Some a) b e = ap (λ x. across p q (Some a) x) e
+across_zip : (p q : ℕ) (a b : Option Core) → across p q a b ≡ on_both p q (option_zip a b)
+across_zip p q None b = refl
+across_zip p q (Some a) None = refl
+across_zip p q (Some a) (Some b) = refl
 
 module _ (cores : List (Option Core)) (links : List Link) (k : ℕ) (within : k < length links) where
   abbrev l : Link
@@ -36,30 +40,31 @@ module _ (cores : List (Option Core)) (links : List Link) (k : ℕ) (within : k 
       ap (any (joins cores p q)) (take_more links k no_link within)
       ∙ any_more (joins cores p q) (take k links) l
 
+  abbrev ends : Option (Core × Core)
+  ends = option_zip (core_at cores l.first) (core_at cores l.second)
+
+  each : (o : Option (Core × Core)) → ends ≡ o → (p q : ℕ) → any (joins cores p q) (take (k + 1) links) ≡ (on_both p q o || any (joins cores p q) (take k links))
+  each o e p q =
+      one_more p q ∙ ap (λ b. b || any (joins cores p q) (take k links)) (across_zip p q (core_at cores l.first) (core_at cores l.second) ∙ ap (on_both p q) e)
+
   -- a link that joins partitions on cores a and b
-  pub sharing_joined : (a b : Core) → core_at cores l.first ≡ Some a → core_at cores l.second ≡ Some b → sharing_of cores (take (k + 1) links) ≡ joined (sharing_of cores (take k links)) (number_of a) (number_of b)
-  sharing_joined a b ea eb =
-      let each : (p q : ℕ) → any (joins cores p q) (take (k + 1) links) ≡ (pair p q (number_of a) (number_of b) || any (joins cores p q) (take k links)) =
-      λ p q. one_more p q ∙ ap (λ x. across p q x (core_at cores l.second) || any (joins cores p q) (take k links)) ea ∙ ap (λ x. across p q (Some a) x || any (joins cores p q) (take k links)) eb
-      in
-      let e01 = each 0 1 in
-      let e02 = each 0 2 in
-      let e03 = each 0 3 in
-      let e12 = each 1 2 in
-      let e13 = each 1 3 in
-      let e23 = each 2 3 in
+  pub sharing_joined : (a b : Core) → ends ≡ Some (a, b) → sharing_of cores (take (k + 1) links) ≡ joined (sharing_of cores (take k links)) (number_of a) (number_of b)
+  sharing_joined a b e =
+      let e01 = each (Some (a, b)) e 0 1 in
+      let e02 = each (Some (a, b)) e 0 2 in
+      let e03 = each (Some (a, b)) e 0 3 in
+      let e12 = each (Some (a, b)) e 1 2 in
+      let e13 = each (Some (a, b)) e 1 3 in
+      let e23 = each (Some (a, b)) e 2 3 in
       cc
 
   -- a link with an unplaced partition
-  pub sharing_passed : ((p q : ℕ) → joins cores p q l ≡ false) → sharing_of cores (take (k + 1) links) ≡ sharing_of cores (take k links)
-  sharing_passed none =
-      let each : (p q : ℕ) → any (joins cores p q) (take (k + 1) links) ≡ any (joins cores p q) (take k links) =
-      λ p q. one_more p q ∙ ap (λ b. b || any (joins cores p q) (take k links)) (none p q)
-      in
-      let e01 = each 0 1 in
-      let e02 = each 0 2 in
-      let e03 = each 0 3 in
-      let e12 = each 1 2 in
-      let e13 = each 1 3 in
-      let e23 = each 2 3 in
+  pub sharing_passed : ends ≡ None → sharing_of cores (take (k + 1) links) ≡ sharing_of cores (take k links)
+  sharing_passed e =
+      let e01 = each None e 0 1 in
+      let e02 = each None e 0 2 in
+      let e03 = each None e 0 3 in
+      let e12 = each None e 1 2 in
+      let e13 = each None e 1 3 in
+      let e23 = each None e 2 3 in
       cc

@@ -11,6 +11,7 @@ use Rattle.tables.specs.declared.model.Link.{Link}
 use Rattle.tables.specs.declared.model.Partition.{Partition}
 use Rattle.tables.specs.declared.model.Task.{Task}
 use Rattle.analysis.specs.Placed.{core_at, is_core, sharing_of}
+use Rattle.analysis.specs.declared.placed.Placed.{Placed}
 use Rattle.analysis.specs.declared.placement.Placement.{Placement}
 
 -- t divided by the period, rounded up
@@ -41,6 +42,9 @@ state tables placement = record {
   links = vec_items tables.links;
   placement = placement.cores;
 }
+
+abbrev pub state_of_placed : Placed → State
+state_of_placed p = state p.tables.now p.placement.now
 
 module _ (s : State) where
   abbrev pub task : ℕ → Task

@@ -1,34 +1,44 @@
 //! The first late task.
-ghost use Rattle.std.specs.Prelude.{◌≡◌, ℕ};
-ghost use Rattle.analysis.specs.Demand.{state};
+ghost use Rattle.std.specs.Prelude.{◌≡◌, ℕ, Some, None, MatchResult};
+ghost use Rattle.terms.specs.Refusals.{told};
+ghost use Rattle.analysis.specs.Demand.{state_of_placed};
 ghost use Rattle.analysis.specs.Times.{FirstLate};
 
-use super::demand::{demanded, examine};
-use super::placement::Placement;
-use super::sharing::sharing_of;
+use super::placed::Placed;
+use super::reckoned::Reckoned;
 use arbiter::arbiter::Arbiter;
-use tables::held::Tables;
-use terms::numbers::Picos;
+use terms::refusal::Refusal;
 
-/// The first placed task, in priority order, that has no fixed point of its demand within its limit.
-pub fn first_late<B: Arbiter>(tables: &Tables, placement: &Placement, arbiter: &B) -> Option<usize>
-    ensures { FirstLate (B.bound arbiter.now) (state tables.now placement.now) result }
-{
-    let sharing = sharing_of(tables, placement);
-    'tasks: for i in 0..tables.tasks().len() {
-        let Some(task) = examine(tables, placement, &sharing, i) else {
-            continue 'tasks;
-        };
-        let last = task.limit.get();
-        let mut t = task.start();
-        'steps: while t <= last {
-            let next = demanded(tables, &task, Picos::new(t), arbiter).get();
-            if next == t {
+impl Placed<'_> {
+    /// The first placed task, in priority order, that has no fixed point of its demand within its limit.
+    pub fn first_late<B: Arbiter>(&self, arbiter: &B) -> Option<usize>
+        ensures { FirstLate (B.bound arbiter.now) (state_of_placed self.now) result }
+    {
+        'tasks: for i in 0..self.tables.tasks().len() {
+            let Some(task) = self.at(i).examine() else {
                 continue 'tasks;
+            };
+            let last = task.limit.get();
+            let mut t = task.start();
+            'steps: while t <= last {
+                let next = self.demanded(&task, Reckoned::new(t), arbiter).get();
+                if next == t {
+                    continue 'tasks;
+                }
+                t = next;
             }
-            t = next;
+            return Some(i);
         }
-        return Some(i);
+        None
     }
-    None
+
+    /// Whether every placed task is in time; refused where one is late, with the first.
+    pub fn in_time<B: Arbiter>(&self, arbiter: &B) -> Result<(), Refusal>
+        ensures { MatchResult result (λ _. FirstLate (B.bound arbiter.now) (state_of_placed self.now) None) (λ e. (k : ℕ) × (told e ≡ (15, k)) × FirstLate (B.bound arbiter.now) (state_of_placed self.now) (Some k)) }
+    {
+        match self.first_late(arbiter) {
+            Some(task) => Err(Refusal::Late { task }),
+            None => Ok(()),
+        }
+    }
 }

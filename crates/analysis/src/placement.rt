@@ -5,7 +5,7 @@ ghost use Rattle.analysis.specs.Placed.{core_at};
 use terms::cores::Core;
 
 /// The core of each partition, if it has one.
-#[derive(Clone, Copy)]
+#[derive(Clone, Copy, Debug, PartialEq, Eq)]
 pub struct Placement {
     cores: [Option<Core>; 16],
     ghost full: { length cores ≡ 16 },
@@ -23,7 +23,8 @@ impl Placement {
     pub fn put(&mut self, partition: usize, core: Option<Core>)
         ensures { self.new.cores ≡ slice_set self.old.cores partition core }
     {
-        if partition < 16 {
+        // by index: what is written through `get_mut` is not known afterwards
+        if partition < self.cores.len() {
             self.cores[partition] = core;
         }
     }
@@ -32,9 +33,6 @@ impl Placement {
     pub fn core_of(&self, partition: usize) -> Option<Core>
         ensures { result ≡ core_at self.now.cores partition }
     {
-        match partition {
-            0..=15 => self.cores[partition],
-            _ => None,
-        }
+        self.cores.get(partition).copied().flatten()
     }
 }

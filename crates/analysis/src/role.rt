@@ -1,16 +1,15 @@
 //! The part that each task plays in the demand of a task under examination, whatever the time.
-ghost use Rattle.std.specs.Prelude.{◌≡◌, ℕ, ◌<◌, ◌&&◌, length, vec_len, ◌==◌, slice_index_or};
-ghost use Rattle.analysis.specs.Demand.{state};
+ghost use Rattle.std.specs.Prelude.{◌≡◌, ℕ, ◌<◌, ◌&&◌, length, ◌==◌, slice_index_or};
+ghost use Rattle.analysis.specs.Demand.{state_of_placed};
 ghost use Rattle.analysis.specs.Roles.{part, role};
 ghost use Rattle.analysis.specs.declared.role.Role.TheVariants.{Aside};
 
-use super::placement::Placement;
-use tables::held::Tables;
+use super::placed::TaskAt;
 use tables::model::Task;
 use terms::cores::Core;
 
 /// The part that a task plays.
-#[derive(Clone, Copy)]
+#[derive(Clone, Copy, Debug, PartialEq, Eq)]
 pub(crate) enum Role {
     /// None: it is neither ahead nor on another core.
     Aside,
@@ -21,7 +20,8 @@ pub(crate) enum Role {
 }
 
 /// The parts that the tasks play, by their numbers.
-#[derive(Clone, Copy)]
+// an array beside the tasks: no memory is asked for
+#[derive(Clone, Copy, Debug, PartialEq, Eq)]
 pub(crate) struct Roles {
     of: [Role; 64],
     ghost full: { length of ≡ 64 },
@@ -54,17 +54,23 @@ fn role_of(x: &Task, place: Option<Core>, before: bool, own: &Task, p: Core) -> 
     }
 }
 
-/// The parts of all tasks in the demand of task `i` on core `p`.
-pub(crate) fn roles_of(tables: &Tables, placement: &Placement, i: usize, p: Core) -> Roles
-    requires { i < vec_len tables.now.tasks }
-    ensures { (k : ℕ) → k < length tables.now.tasks.items → slice_index_or result.of k Aside ≡ role (state tables.now placement.now) i p k }
-{
-    let tasks = tables.tasks();
-    let own = &tasks[i];
-    let mut of = [Role::Aside; 64];
-    for k in 0..tasks.len() {
-        let x = &tasks[k];
-        of[k] = role_of(x, placement.core_of(x.partition), k < i, own, p);
+impl TaskAt<'_> {
+    /// The parts of all tasks in the demand of this task on core `p`.
+    pub(crate) fn roles(&self, p: Core) -> Roles
+        ensures { (k : ℕ) → k < length self.now.placed.tables.now.tasks.items → slice_index_or result.of k Aside ≡ role (state_of_placed self.now.placed) self.now.i p k }
+    {
+        let tasks = self.placed.tables.tasks();
+        let own = &tasks[self.i];
+        let mut of = [Role::Aside; 64];
+        for (k, x) in tasks.iter().enumerate() {
+            of[k] = role_of(
+                x,
+                self.placed.placement.core_of(x.partition),
+                k < self.i,
+                own,
+                p,
+            );
+        }
+        Roles { of }
     }
-    Roles { of }
 }

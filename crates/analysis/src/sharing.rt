@@ -4,27 +4,20 @@ ghost use Rattle.analysis.specs.Placed.{sharing_of};
 
 use super::placement::Placement;
 use arbiter::question::Sharing;
-use tables::held::Tables;
 use tables::model::Link;
 
 /// The cores that share by some links: those of the partitions that a link joins, if both are placed.
-fn joined_by(links: &[Link], placement: &Placement) -> Sharing
+pub(crate) fn joined_by(links: &[Link], placement: &Placement) -> Sharing
     ensures { result ≡ sharing_of placement.now.cores links.now }
 {
     let mut sharing = Sharing::NONE;
     for link in links {
-        if let Some(a) = placement.core_of(link.first) {
-            if let Some(b) = placement.core_of(link.second) {
-                sharing.join(a, b);
-            }
+        let ends = placement
+            .core_of(link.first)
+            .zip(placement.core_of(link.second));
+        if let Some((a, b)) = ends {
+            sharing.join(a, b);
         }
     }
     sharing
-}
-
-/// Two cores share when a link joins partitions placed on them, one on each.
-pub(crate) fn sharing_of(tables: &Tables, placement: &Placement) -> Sharing
-    ensures { result ≡ sharing_of placement.now.cores tables.now.links.items }
-{
-    joined_by(tables.links(), placement)
 }

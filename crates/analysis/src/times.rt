@@ -1,71 +1,55 @@
 //! The time of a task, and the times of all.
-ghost use Rattle.std.specs.Prelude.{◌≡◌, ℕ, ◌^◌, ◌<◌, ◌≤◌, length, vec_len, MatchOption};
-ghost use Rattle.analysis.specs.Demand.{state, limit};
-ghost use Rattle.analysis.specs.Placed.{sharing_of};
+ghost use Rattle.std.specs.Prelude.{◌≡◌, ℕ, ◌<◌, ◌≤◌, length, MatchOption};
+ghost use Rattle.analysis.specs.Demand.{state, state_of_placed, limit};
 ghost use Rattle.analysis.specs.Times.{TimeIs, Times};
+ghost use Rattle.analysis.specs.declared.placement.Placement.{Placement};
 
-use super::demand::{demanded, examine, limit_of};
-use super::placement::Placement;
-use super::sharing::sharing_of;
+use super::buffer::fill;
+use super::demand::limit_of;
+use super::placed::{Placed, TaskAt};
+use super::reckoned::Reckoned;
 use arbiter::arbiter::Arbiter;
-use arbiter::question::Sharing;
 use tables::held::Tables;
 use terms::numbers::Picos;
 use terms::refusal::Refusal;
 
-/// The time of task `i`: the least fixed point of its demand within its limit; none where it is unplaced or late.
-pub(crate) fn response<B: Arbiter>(
-    tables: &Tables,
-    placement: &Placement,
-    sharing: &Sharing,
-    i: usize,
-    arbiter: &B,
-) -> Option<Picos>
-    requires sharing { sharing.now ≡ sharing_of placement.now.cores tables.now.links.items }
-    requires task { i < vec_len tables.now.tasks }
-    ensures { TimeIs (B.bound arbiter.now) (state tables.now placement.now) i result }
-{
-    let Some(task) = examine(tables, placement, sharing, i) else {
-        return None;
-    };
-    let last = task.limit.get();
-    let mut t = task.start();
-    while t <= last {
-        let next = demanded(tables, &task, Picos::new(t), arbiter).get();
-        if next == t {
-            return Some(Picos::new(t));
+impl TaskAt<'_> {
+    /// The time of the task: the least fixed point of its demand within its limit; none where it is unplaced or late.
+    pub(crate) fn response<B: Arbiter>(&self, arbiter: &B) -> Option<Picos>
+        ensures { TimeIs (B.bound arbiter.now) (state_of_placed self.now.placed) self.now.i result }
+    {
+        let task = self.examine()?;
+        let last = task.limit.get();
+        let mut t = task.start();
+        while t <= last {
+            let next = self.placed.demanded(&task, Reckoned::new(t), arbiter).get();
+            if next == t {
+                return Some(Picos::new(t));
+            }
+            t = next;
         }
-        t = next;
+        None
     }
-    None
 }
 
-/// Writes the time of each task, or 0, into the first entries of a buffer; refuses a buffer that is too short.
-pub fn times<B: Arbiter>(
-    tables: &Tables,
-    placement: &Placement,
-    out: &mut [Picos],
-    arbiter: &B,
-) -> Result<(), Refusal>
-    ensures { Times (B.bound arbiter.now) (state tables.now placement.now) out.old result out.new }
-{
-    let needed = tables.tasks().len();
-    if out.len() < needed {
-        return Err(Refusal::ShortBuffer { needed });
+impl Placed<'_> {
+    /// Writes the time of each task, or 0, into the first entries of a buffer; refuses a buffer that is too short.
+    pub fn times<B: Arbiter>(&self, out: &mut [Picos], arbiter: &B) -> Result<(), Refusal>
+        ensures { Times (B.bound arbiter.now) (state_of_placed self.now) out.old result out.new }
+    {
+        // 0 where there is no time, as the product's description says
+        fill(out, self.tables.tasks().len(), |i| {
+            self.at(i).response(arbiter).unwrap_or(Picos::NONE)
+        })
     }
-    let sharing = sharing_of(tables, placement);
-    for i in 0..needed {
-        out[i] = response(tables, placement, &sharing, i, arbiter).unwrap_or(Picos::NONE);
-    }
-    Ok(())
 }
 
-/// The limit of task `i`, if there is such a task.
-pub fn limit_at(tables: &Tables, placement: &Placement, i: usize) -> Option<Picos>
-    ensures { MatchOption result (length (state tables.now placement.now).tasks ≤ i) (λ t. (i < length (state tables.now placement.now).tasks) × (t.0 ≡ limit (state tables.now placement.now) i)) }
+/// The limit of task `i`, wherever it is placed, if there is such a task.
+pub fn limit_at(tables: &Tables, i: usize) -> Option<Picos>
+    ensures { (q : Placement) → MatchOption result (length (state tables.now q).tasks ≤ i) (λ t. (i < length (state tables.now q).tasks) × (t.0 ≡ limit (state tables.now q) i)) }
 {
     if i < tables.tasks().len() {
-        Some(limit_of(tables, placement, i))
+        Some(limit_of(tables, i))
     } else {
         None
     }

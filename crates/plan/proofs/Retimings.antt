@@ -1,10 +1,11 @@
 -- Other numbers for a task, and the former ones again. Assumes nothing.
-use Rattle.std.proofs.Common.{◌≡◌, ℕ, ◌<◌, ltb, List, length, get_or, set, Some, None, Ok, Err, Option, refl, ap, ◌∙◌, subst, arith, length-set}
+use Rattle.std.proofs.Common.{◌≡◌, ℕ, ◌<◌, ltb, List, length, get_or, set, Some, None, Ok, Err, Option, ap, ◌∙◌, subst, arith, length-set}
 use Rattle.std.proofs.lemmas.List.{get_or-set_same, set-set, set-get_or}
 use Rattle.std.proofs.lemmas.Bool.{lt-ltb, cond-true}
 use Rattle.terms.specs.Checks.{first_out}
+use Rattle.terms.specs.Refusals.{told}
 use Rattle.terms.specs.declared.cores.Core.{Core}
-use Rattle.terms.specs.declared.refusal.Refusal.TheVariants.{Late}
+use Rattle.terms.specs.declared.refusal.Refusal.{Refusal}
 use Rattle.arbiter.specs.declared.question.Question.{Question}
 use Rattle.tables.specs.Layout.{Tabled}
 use Rattle.tables.specs.Ranges.{no_task}
@@ -71,7 +72,7 @@ module _ (s : State) (i : ℕ) (n : Numbers) (t : Timing) (has : Timed n t) wher
       ∙ ap (λ (m : Tabled). record { cores = m.cores; partitions = m.partitions; tasks = ts; links = m.links; placement = s.placement }) h.2
 
   -- a retiming that is refused as late
-  pub retime_late : (U : Type 0) (bound : Question → ℕ) (former : Timing) (mid new : Tabled) (r : Option Timing) (k : ℕ) → first_out 0 (numbers_in_range n) ≡ None → Retimes (tables_in s) i t (Some former) mid → Retimes mid i former r new → FirstLate bound (over mid s.placement) (Some k) → Call {U = U} bound s (retime_asks s i n) (Err (Late k)) (over new s.placement)
-  retime_late U bound former mid new r k passed h back late =
-      examined {U = U} bound s (with_numbers s i n) (over new s.placement) (retime_asks s i n) (Err (Late k)) (retime_ok s i n h.0 passed)
-      ((k, refl, subst (λ m. FirstLate bound m (Some k)) (retimed_state former mid h) late), restored_state former mid new r h back)
+  pub retime_late : (U : Type 0) (bound : Question → ℕ) (former : Timing) (mid new : Tabled) (r : Option Timing) (k : ℕ) (e : Refusal) → told e ≡ (15, k) → first_out 0 (numbers_in_range n) ≡ None → Retimes (tables_in s) i t (Some former) mid → Retimes mid i former r new → FirstLate bound (over mid s.placement) (Some k) → Call {U = U} bound s (retime_asks s i n) (Err e) (over new s.placement)
+  retime_late U bound former mid new r k e tells passed h back late =
+      examined {U = U} bound s (with_numbers s i n) (over new s.placement) (retime_asks s i n) (Err e) (retime_ok s i n h.0 passed)
+      ((k, tells, subst (λ m. FirstLate bound m (Some k)) (retimed_state former mid h) late), restored_state former mid new r h back)

@@ -2,10 +2,10 @@
 use Rattle.std.proofs.Common.{◌≡◌, ℕ, Bool, true, false, cond, ltb, List, length, set, is_some, Some, None, Ok, Err, Option, Result, sym, refl, ap, ◌∙◌, subst, arith}
 use Rattle.std.proofs.lemmas.List.{set-set, set-get_or}
 use Rattle.terms.specs.Cores.{numbered}
+use Rattle.terms.specs.Refusals.{told}
 use Rattle.terms.specs.declared.cores.Core.{Core}
 use Rattle.terms.specs.Units.{Picos}
 use Rattle.terms.specs.declared.refusal.Refusal.{Refusal}
-use Rattle.terms.specs.declared.refusal.Refusal.TheVariants.{Late}
 use Rattle.arbiter.specs.declared.question.Question.{Question}
 use Rattle.tables.specs.Layout.{Tabled}
 use Rattle.analysis.specs.Demand.{State}
@@ -47,13 +47,13 @@ module _ (s : State) (partition core : ℕ) (bound : Question → ℕ) (old : Li
       passed (ltb partition (length s.partitions)) (ltb core s.cores) (is_some (core_at s.placement partition)) (ltb (length old) (length s.tasks))
       (tried s partition core) (10, core) (9, partition) (16, partition) (17, length s.tasks) free
 
-  pub trial_late : (m : State) (k : ℕ) → m ≡ tried s partition core → FirstLate bound m (Some k) → Tried bound s partition core (trial_refusal s partition core (length old)) old (Err (Late k)) old
-  trial_late m k same late =
-      subst (λ o. Tried bound s partition core o old (Err (Late k)) old) (sym free)
+  pub trial_late : (m : State) (k : ℕ) (e : Refusal) → m ≡ tried s partition core → told e ≡ (15, k) → FirstLate bound m (Some k) → Tried bound s partition core (trial_refusal s partition core (length old)) old (Err e) old
+  trial_late m k e same tells late =
+      subst (λ o. Tried bound s partition core o old (Err e) old) (sym free)
       (record {
-        first = Err (Late k);
+        first = Err e;
         m = s;
-        place = examined bound s (tried s partition core) s (place_asks s partition core) (Err (Late k)) asked ((k, refl, subst (λ n. FirstLate bound n (Some k)) same late), refl);
+        place = examined bound s (tried s partition core) s (place_asks s partition core) (Err e) asked ((k, tells, subst (λ n. FirstLate bound n (Some k)) same late), refl);
         times = (refl, refl);
       })
 

@@ -18,7 +18,7 @@ pub const UNPLACED: u8 = 255;
 fn is_known(entry: u8, cores: usize) -> bool
     ensures { result ≡ names_core cores entry }
 {
-    entry == UNPLACED || (entry as usize) < cores
+    entry == UNPLACED || usize::from(entry) < cores
 }
 
 /// The index of the first entry that names neither a core of the computer nor none.

@@ -1,11 +1,12 @@
 //! The calls that change a plan.
-ghost use Rattle.std.specs.Prelude.{ℕ, Ok};
+ghost use Rattle.std.specs.Prelude.{◌≡◌, ℕ, ◌<◌, ◌≤◌, length, Ok, MatchResult};
+ghost use Rattle.terms.specs.Refusals.{told};
 ghost use Rattle.plan.specs.Born.{state_of};
 ghost use Rattle.plan.specs.Calls.{Call, Allocates, replaced, adopt_asks, place_asks, withdraw_asks};
 
 use super::adoption::allocation;
 use super::plan::Plan;
-use analysis::late::first_late;
+use analysis::placed::Placed;
 use analysis::placement::Placement;
 use arbiter::arbiter::Arbiter;
 use terms::cores::Core;
@@ -16,13 +17,9 @@ impl Plan {
     fn settle<B: Arbiter>(&mut self, next: Placement, arbiter: &B) -> Result<(), Refusal>
         ensures { Call (B.bound arbiter.now) (state_of self.old) (Ok (replaced (state_of self.old) next.cores)) result (state_of self.new) }
     {
-        match first_late(&self.tables, &next, arbiter) {
-            Some(task) => Err(Refusal::Late { task }),
-            None => {
-                self.placement = next;
-                Ok(())
-            }
-        }
+        Placed::new(&self.tables, &next).in_time(arbiter)?;
+        self.placement = next;
+        Ok(())
     }
 
     /// Replaces all placements by an allocation: for each partition the number of a core, or 255 for unplaced.
@@ -58,13 +55,21 @@ impl Plan {
         self.settle(next, arbiter)
     }
 
-    /// The placement with a partition on a core.
-    pub(crate) fn placed(&self, partition: usize, core: usize) -> Result<Placement, Refusal>
-        ensures { Allocates (place_asks (state_of self.now) partition core) (state_of self.now) result }
+    /// Refuses a number that no partition has.
+    fn has(&self, partition: usize) -> Result<(), Refusal>
+        ensures { MatchResult result (λ _. partition < length (state_of self.now).partitions) (λ e. (length (state_of self.now).partitions ≤ partition) × (told e ≡ (9, partition))) }
     {
         if partition >= self.tables.partitions().len() {
             return Err(Refusal::NoPartition { partition });
         }
+        Ok(())
+    }
+
+    /// The placement with a partition on a core.
+    pub(crate) fn placed(&self, partition: usize, core: usize) -> Result<Placement, Refusal>
+        ensures { Allocates (place_asks (state_of self.now) partition core) (state_of self.now) result }
+    {
+        self.has(partition)?;
         if core >= self.tables.cores() {
             return Err(Refusal::NoCore { core });
         }
@@ -77,9 +82,7 @@ impl Plan {
     fn withdrawn(&self, partition: usize) -> Result<Placement, Refusal>
         ensures { Allocates (withdraw_asks (state_of self.now) partition) (state_of self.now) result }
     {
-        if partition >= self.tables.partitions().len() {
-            return Err(Refusal::NoPartition { partition });
-        }
+        self.has(partition)?;
         if self.placement.core_of(partition).is_none() {
             return Err(Refusal::NotPlaced { partition });
         }

@@ -2,7 +2,7 @@
 use tables::numbers::Numbers;
 
 /// One of the four calls that change a plan, with its arguments.
-#[derive(Drop)]
+#[derive(Debug, PartialEq, Eq, Drop)]
 pub enum Change {
     /// Replaces all placements.
     Adopt { entries: Vec<u8> },

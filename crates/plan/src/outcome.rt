@@ -3,7 +3,7 @@ use terms::numbers::Picos;
 use terms::refusal::Refusal;
 
 /// What became of a change: accepted or why not, and the time of each task after it, or 0 where it has none.
-#[derive(Clone, Copy)]
+#[derive(Clone, Copy, Debug, PartialEq, Eq)]
 pub struct Outcome {
     pub verdict: Result<(), Refusal>,
     pub times: [Picos; 64],

@@ -15,7 +15,7 @@ impl Plan {
         ensures { Call (B.bound arbiter.now) (state_of self.old) (asks (state_of self.old) change.now) result (state_of self.new) }
     {
         match change {
-            Change::Adopt { entries } => self.adopt(entries.as_slice(), arbiter),
+            Change::Adopt { entries } => self.adopt(entries, arbiter),
             Change::Place { partition, core } => self.place(*partition, *core, arbiter),
             Change::Withdraw { partition } => self.withdraw(*partition, arbiter),
             Change::Retime { task, numbers } => self.retime(*task, *numbers, arbiter),

@@ -6,8 +6,8 @@ ghost use Rattle.analysis.specs.Windows.{Windows};
 ghost use Rattle.plan.specs.Born.{state_of};
 
 use super::plan::Plan;
-use analysis::times::{limit_at, times};
-use analysis::windows::windows;
+use analysis::placed::Placed;
+use analysis::times::limit_at;
 use arbiter::arbiter::Arbiter;
 use terms::numbers::Picos;
 use terms::refusal::Refusal;
@@ -33,14 +33,14 @@ impl Plan {
     pub fn limit(&self, task: usize) -> Option<Picos>
         ensures { MatchOption result (length (state_of self.now).tasks ≤ task) (λ t. (task < length (state_of self.now).tasks) × (t.0 ≡ limit (state_of self.now) task)) }
     {
-        limit_at(&self.tables, &self.placement, task)
+        limit_at(&self.tables, task)
     }
 
     /// Fills the first entries of a buffer, one for each task, with its time, or 0 where it has none.
     pub fn times<B: Arbiter>(&self, out: &mut [Picos], arbiter: &B) -> Result<(), Refusal>
         ensures { Times (B.bound arbiter.now) (state_of self.now) out.old result out.new }
     {
-        times(&self.tables, &self.placement, out, arbiter)
+        Placed::new(&self.tables, &self.placement).times(out, arbiter)
     }
 
     /// Fills the first entries of a buffer, one for each partition, with its window: the largest time of its tasks, or 0
@@ -48,6 +48,6 @@ impl Plan {
     pub fn windows<B: Arbiter>(&self, out: &mut [Picos], arbiter: &B) -> Result<(), Refusal>
         ensures { Windows (B.bound arbiter.now) (state_of self.now) out.old result out.new }
     {
-        windows(&self.tables, &self.placement, out, arbiter)
+        Placed::new(&self.tables, &self.placement).windows(out, arbiter)
     }
 }

@@ -39,8 +39,9 @@ pub fn rehearse<B: Arbiter>(
     if log.len() < needed {
         return Err(Refusal::ShortBuffer { needed });
     }
-    for k in 0..needed {
-        log[k] = plan.play(&changes[k], arbiter);
+    // by index: what is written through a zip with `log.iter_mut()` is not known afterwards
+    for (k, change) in changes.iter().enumerate() {
+        log[k] = plan.play(change, arbiter);
     }
     Ok(plan)
 }

@@ -7,7 +7,7 @@ ghost use Rattle.plan.specs.Born.{state_of};
 ghost use Rattle.plan.specs.Calls.{Call, retime_asks};
 
 use super::plan::Plan;
-use analysis::late::first_late;
+use analysis::placed::Placed;
 use arbiter::arbiter::Arbiter;
 use tables::held::Tables;
 use tables::numbers::Numbers;
@@ -32,13 +32,12 @@ impl Plan {
         let Some(former) = self.tables.retime(task, timing) else {
             return Err(Refusal::NoTask { task });
         };
-        match first_late(&self.tables, &self.placement, arbiter) {
-            Some(late) => {
-                undo(&mut self.tables, task, former);
-                Err(Refusal::Late { task: late })
-            }
-            None => Ok(()),
+        let placed = Placed::new(&self.tables, &self.placement);
+        if let Err(late) = placed.in_time(arbiter) {
+            undo(&mut self.tables, task, former);
+            return Err(late);
         }
+        Ok(())
     }
 }
 

@@ -6,8 +6,7 @@ ghost use Rattle.plan.specs.Trial.{Trial, Copied, said_by, trial_refusal};
 
 use super::guard::Held;
 use super::plan::Plan;
-use analysis::late::first_late;
-use analysis::times::times;
+use analysis::placed::Placed;
 use arbiter::arbiter::Arbiter;
 use tables::held::spare::Spare;
 use terms::cores::Core;
@@ -55,10 +54,9 @@ impl Plan {
             former,
         };
         guard.placement.put(partition, Core::try_from(core).ok());
-        if let Some(task) = first_late(tables, guard.placement, arbiter) {
-            return Err(Refusal::Late { task });
-        }
-        times(tables, guard.placement, out, arbiter)
+        let placed = Placed::new(tables, guard.placement);
+        placed.in_time(arbiter)?;
+        placed.times(out, arbiter)
     }
 
     /// Whether a trial of this partition on this core, with so long a buffer, passes its checks; else the first that

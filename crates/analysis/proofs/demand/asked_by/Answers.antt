@@ -2,15 +2,8 @@ use Rattle.std.proofs.Common.{◌≡◌, ℕ, ◌+◌, List, length, subst, arit
 use Rattle.terms.specs.Cores.{number_of}
 use Rattle.tables.specs.declared.model.Task.{Task}
 use Rattle.analysis.proofs.Asking.{Asking, asking_aside, asking_ahead, asking_other, moved}
-use Rattle.analysis.proofs.Shares.{fit_at}
 use Rattle.analysis.proofs.demand.asked_by.Goals as goal
 use Rattle.analysis.proofs.demand.asked_by.Goals.{in-Ahead, in-Other, in-Aside}
-
-pub own_share-share-requires : goal.own_share-share-requires
-own_share-share-requires c = record { fit = fit_at _ c.tasks-tasks.result.now c.loop-k.k c.tasks-tasks.ensures.sound c.loop-k-test.true; time = c.requires }
-
-pub other_share-requires : goal.other_share-requires
-other_share-requires c = record { fit = fit_at _ c.tasks-tasks.result.now c.loop-k.k c.tasks-tasks.ensures.sound c.loop-k-test.true; time = c.requires }
 
 pub add_assign-requires : goal.add_assign-requires
 add_assign-requires c = let few = c.tasks-tasks.ensures.sound.few in omega (arith, c.own_share-share.ensures.small.0)
@@ -21,14 +14,14 @@ add_assign-requires-in-Ahead c = let few = c.tasks-tasks.ensures.sound.few in om
 pub add_assign-requires-in-Other : goal.add_assign-requires-in-Other
 add_assign-requires-in-Other c =
     let few = c.tasks-tasks.ensures.sound.few in
-    omega (arith, c.other_share.ensures.small, c.loop-k.invariant.each_few c.from-n.result c.from-n.ensures.1)
+    omega (arith, c.other_share.ensures.small, c.loop-k.invariant.each_few c.from.result c.from.ensures.1)
 
 pub loop-k-preserved : goal.loop-k-preserved
 loop-k-preserved c =
     let tasks = c.tasks-tasks.result.now in
     let roles = c.args.roles.now.of in
     let p = number_of c.args.p in
-    let t = c.args.t.0 in
+    let t = c.args.t.t.0 in
     let k = c.loop-k.k in
     let e = c.loop-k.execution in
     let r = c.loop-k.requests in
@@ -42,7 +35,7 @@ loop-k-preserved c =
           share.ensures.execution share.ensures.requests w.add_assign.ensures.after w.add_assign-in-Ahead.ensures.after share.ensures.small.0 share.ensures.small.1)
       | in-Other w ↦
           moved tasks roles p t (k + 1) _ _ _ _ _ _ w.execution-is w.requests-is w.others-is
-          (asking_other tasks roles p t k e r o inv w.in-Other.q w.other_share.result.0 w.from-n.result w.add_assign-in-Other.new.self w.in-Other.ensures w.from-n.ensures.0 w.from-n.ensures.1
+          (asking_other tasks roles p t k e r o inv w.in-Other.q w.other_share.result.0 w.from.result w.add_assign-in-Other.new.self w.in-Other.ensures w.from.ensures.0 w.from.ensures.1
           w.other_share.ensures.is w.add_assign-in-Other.ensures.after w.other_share.ensures.small)
       | in-Aside w ↦ moved tasks roles p t (k + 1) _ _ _ _ _ _ w.execution-is w.requests-is w.others-is (asking_aside tasks roles p t k e r o inv w.in-Aside.ensures)
     ]
@@ -51,7 +44,7 @@ pub returns : goal.returns
 returns c =
     let roles = c.args.roles.now.of in
     let p = number_of c.args.p in
-    let t = c.args.t.0 in
+    let t = c.args.t.t.0 in
     let inv = c.loop-k.invariant in
     let all : c.loop-k.k ≡ length c.tasks-tasks.result.now = omega arith in
     let done = subst (λ (xs : List Task). Asking xs roles p t (length xs) c.loop-k.execution c.loop-k.requests c.loop-k.others) c.tasks-tasks.ensures.is

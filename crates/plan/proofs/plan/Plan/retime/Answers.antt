@@ -1,11 +1,16 @@
+use Rattle.std.proofs.Common.{Some, sym}
 use Rattle.tables.specs.Tabled.{tabled}
+use Rattle.analysis.specs.Times.{FirstLate}
 use Rattle.plan.specs.Born.{state_of}
-use Rattle.plan.proofs.Retimings.{retime_late}
+use Rattle.plan.proofs.Retimings.{retime_late, over}
 use Rattle.plan.proofs.plan.Plan.retime.Goals as goal
 
-pub returns-in-Some-first_late : goal.returns-in-Some-first_late
-returns-in-Some-first_late g c =
+pub returns-in-Err : goal.returns-in-Err
+returns-in-Err g c =
     let made = c.in_ok-timing.ensures in
+    let late = c.in-Err.ensures in
+    let at : FirstLate (g.B.Arbiter.bound c.args.arbiter.now) (over (tabled c.retime.new.self) c.args.self.now.placement.cores) (Some late.0) =
+    rw (sym c.new-placed.ensures.0, sym c.new-placed.ensures.1) late.2 in
     retime_late (state_of c.args.self.now) c.args.task c.args.numbers c.in_ok-timing.timing made.1
-    (Unit {0}) (g.B.Arbiter.bound c.args.arbiter.now) c.in-Some.former (tabled c.retime.new.self) (tabled c.undo.new.tables) c.undo.ensures.0 c.in-Some-first_late.late
-    made.0 c.in-Some.ensures c.undo.ensures.1 c.in-Some-first_late.ensures
+    (Unit {0}) (g.B.Arbiter.bound c.args.arbiter.now) c.in-Some.former (tabled c.retime.new.self) (tabled c.undo.new.tables) c.undo.ensures.0 late.0 c.in-Err.late late.1
+    made.0 c.in-Some.ensures c.undo.ensures.1 at

@@ -1,8 +1,12 @@
-use Rattle.std.proofs.Common.{◌≡◌, List, set, Option, ap, ◌∙◌}
+use Rattle.std.proofs.Common.{◌≡◌, List, length, set, Err, Option, Result, sym, ap, ◌∙◌, subst}
+use Rattle.std.proofs.lemmas.Result.{err_from_is_err_and}
 use Rattle.terms.specs.declared.cores.Core.{Core}
+use Rattle.terms.specs.declared.refusal.Refusal.{Refusal}
 use Rattle.terms.proofs.Numbering.{numbered_ok}
 use Rattle.tables.specs.Tabled.{tabled}
+use Rattle.analysis.specs.Demand.{state_of_placed}
 use Rattle.plan.specs.Born.{state_of}
+use Rattle.plan.specs.Trial.{trial_refusal, Tried}
 use Rattle.plan.proofs.Retimings.{over}
 use Rattle.plan.proofs.Trials.{put_back, tried, tried_on, trial_late, trial_done}
 use Rattle.plan.proofs.plan.Plan.tried.Given as given
@@ -21,18 +25,22 @@ restored g c after back =
     let own = c.args.self.now in
     ap (λ q. over (tabled own.tables) q) (put_back own.placement.cores c.put.new.self.cores after c.args.partition c.ok.result c.core_of-former.result c.put.ensures c.core_of-former.ensures back)
 
-pub returns-in-Some-clause-trial : goal.returns-in-Some-clause-trial
-returns-in-Some-clause-trial g c =
-    let d = (goal.at.returns-in-Some-clause-trial g c).After-put in
+pub returns-in_err-in_time-clause-trial : goal.returns-in_err-in_time-clause-trial
+returns-in_err-in_time-clause-trial g c =
+    let d = (goal.at.returns-in_err-in_time-clause-trial g c).After-put in
+    let p = err_from_is_err_and c.from_residual.result c.from_residual.ensures.1 in
+    let late = c.in_err-in_time.ensures in
+    let same : state_of_placed c.new-placed.result ≡ tried (state_of c.args.self.now) c.args.partition c.args.core = rw (c.new-placed.ensures.0, c.new-placed.ensures.1) (examined g d) in
     record {
       stands = restored g d c.drop-guard.new.self.0.cores c.drop-guard.ensures;
-      answer = trial_late (state_of c.args.self.now) c.args.partition c.args.core (g.B.Arbiter.bound c.args.arbiter.now) c.args.out.now c.requires _ c.in-Some.task (examined g d) c.in-Some.ensures;
+      answer = subst (λ (r : Result (Unit {0}) Refusal). Tried (g.B.Arbiter.bound c.args.arbiter.now) (state_of c.args.self.now) c.args.partition c.args.core (trial_refusal (state_of c.args.self.now) c.args.partition c.args.core (length c.args.out.now)) c.args.out.now r c.args.out.now) (sym (p.1 ∙ ap Err p.2)) (trial_late (state_of c.args.self.now) c.args.partition c.args.core (g.B.Arbiter.bound c.args.arbiter.now) c.args.out.now c.requires _ late.0 _ same late.1 late.2);
     }
 
 pub returns-clause-trial : goal.returns-clause-trial
 returns-clause-trial g c =
     let d = (goal.at.returns-clause-trial g c).After-put in
+    let same : state_of_placed c.new-placed.result ≡ tried (state_of c.args.self.now) c.args.partition c.args.core = rw (c.new-placed.ensures.0, c.new-placed.ensures.1) (examined g d) in
     record {
       stands = restored g d c.drop-guard-2.new.self.0.cores c.drop-guard-2.ensures;
-      answer = trial_done (state_of c.args.self.now) c.args.partition c.args.core (g.B.Arbiter.bound c.args.arbiter.now) c.args.out.now c.requires _ c.times.result c.times.new.out (examined g d) c.in_default.ensures c.times.ensures;
+      answer = trial_done (state_of c.args.self.now) c.args.partition c.args.core (g.B.Arbiter.bound c.args.arbiter.now) c.args.out.now c.requires _ c.times.result c.times.new.out same c.in_ok-in_time.ensures c.times.ensures;
     }
