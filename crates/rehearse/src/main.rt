@@ -3,7 +3,6 @@
 
 mod day;
 mod decimal;
-mod input;
 mod parse;
 mod pieces;
 mod script;
@@ -13,7 +12,7 @@ mod tests;
 mod transcript;
 
 use day::rehearse_day;
-use input::first_bytes;
+use report::input::first_bytes;
 use plan::outcome::Outcome;
 use script::Script;
 use std::io;

@@ -1,11 +1,8 @@
 -- A line of two numbers, as it is put together. Assumes nothing.
-use Rattle.std.proofs.Common.{◌≡◌, ℕ, ◌+◌, ◌-◌, ◌^◌, ◌<◌, ◌≤◌, List, [], ◌∷◌, ◌++◌, length, take, drop, set, codes, decimal, sym, ap, ◌∙◌, subst, append_assoc, arith}
+use Rattle.std.proofs.Common.{◌≡◌, ℕ, ◌+◌, ◌-◌, ◌<◌, ◌≤◌, List, [], ◌∷◌, ◌++◌, length, take, drop, set, decimal, sym, ap, subst, append_assoc, arith}
 use borrow.Rule.Slice.PartMut.{put_mid}
-use Rattle.std.proofs.lemmas.List.{length-append, length_push}
-use Rattle.terms.specs.Refusals.{told}
-use Rattle.terms.specs.declared.refusal.Refusal.{Refusal}
-use Rattle.report.specs.Text.{Put, refused_line, two_numbers}
-use Rattle.report.proofs.Decimal.{length_most}
+use Rattle.std.proofs.lemmas.List.{length_push}
+use Rattle.report.specs.Text.{Put, two_numbers}
 use Rattle.report.proofs.Puts.{put_byte, put_more}
 
 module _ (before : List ℕ) (n : ℕ) (between : List ℕ) (m : ℕ) where

@@ -1,12 +1,9 @@
 -- The lines of some times, one more at a time. Assumes nothing.
 use Rattle.std.proofs.Common.{◌≡◌, ℕ, zero, suc, ◌+◌, ◌-◌, ◌<◌, ◌≤◌, List, [], ◌∷◌, ◌++◌, length, get_or, take, drop, sym, ap, ◌∙◌, subst, append_assoc, add-zero, zero-add, add-one, arith}
 use borrow.Rule.Slice.PartMut.{put_mid}
-use Rattle.std.proofs.lemmas.List.{append-nil, get_or-take, length-append, length-take-le, take_all}
+use Rattle.std.proofs.lemmas.List.{append-nil, length-append}
 use Rattle.terms.specs.Units.{Picos}
-use Rattle.tables.specs.Ranges.{no_time}
-use Rattle.report.specs.Listed.{listed}
 use Rattle.report.specs.Text.{Put, line, lines, listing}
-use Rattle.report.specs.declared.times.Times.{Times}
 use Rattle.report.proofs.Puts.{put_more}
 
 lines_suc : (k i : ℕ) (ts : List Picos) (d : Picos) → i < length ts → lines k (take (suc i) ts) ≡ lines k (take i ts) ++ line (k + i) (get_or ts i d).0
