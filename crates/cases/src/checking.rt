@@ -2,6 +2,7 @@
 use super::files::{
     FIRST, FIRST_FIVE, LATE, LINKED, ONE, PAIR, RECEIVE, SECOND, SECOND_FIVE, WRITE,
 };
+use super::writing::is_written;
 use report::checked::check_text;
 use std::alloc::{AllocError, Global};
 use std::test::Fail;
@@ -16,22 +17,18 @@ pub(super) fn joined(
     second: &[u8],
     end: &[u8],
 ) -> Result<Vec<u8>, AllocError> {
-    let mut file = Vec::from_slice(heap, head)?;
-    file.extend_from_slice(first)?;
-    file.extend_from_slice(second)?;
-    file.extend_from_slice(end)?;
+    let mut file = Vec::new(heap);
+    for part in [head, first, second, end] {
+        file.extend_from_slice(part)?;
+    }
     Ok(file)
 }
 
 /// Whether checker prints this text of a file and an allocation.
 fn prints(heap: Global, file: &[u8], allocation: &[u8], text: &[u8]) -> Result<bool, AllocError> {
     let mut out = [b'.'; 30];
-    match check_text(Room::reserve(heap)?, file, allocation, &mut out) {
-        Ok(length) => Ok(
-            length == text.len() && out.starts_with(text) && out.get(length) == Some(&b'.'),
-        ),
-        Err(_) => Ok(false),
-    }
+    let written = check_text(Room::reserve(heap)?, file, allocation, &mut out);
+    Ok(is_written(written, &out, text))
 }
 
 #[test]

@@ -19,12 +19,10 @@ const TASK: [u8; 45] = [
     0, 0, 0, 0, 0x03, 0, 0, 0, 0, 0, 0x40, 0, 0, 0, 0, 0x10, 0, 0x02, 0xF4, 0x24, 0x01, 0x74,
 ];
 
-/// The number and what is told where a file is refused, or zeros where it is accepted.
-fn told(file: &[u8], heap: Global) -> Result<(usize, usize), AllocError> {
-    match Tables::read(Room::reserve(heap)?, file) {
-        Ok(_) => Ok((0, 0)),
-        Err(refusal) => Ok((refusal.number(), refusal.tells())),
-    }
+/// The number of the refusal and what it tells, where a file is refused.
+fn told(file: &[u8], heap: Global) -> Result<Option<(usize, usize)>, AllocError> {
+    let refusal = Tables::read(Room::reserve(heap)?, file).err();
+    Ok(refusal.map(|refusal| (refusal.number(), refusal.tells())))
 }
 
 /// A file with bytes put after it.
@@ -49,7 +47,7 @@ fn small_files(rt: HostRuntime) -> Result<(), Fail> {
     assert!(rt; partitions.len() == 1);
     assert_eq!(rt; partitions[0].period.get(), 1_000_000_000);
     let short = [0x21, 0, 0, 0, 0x03, 0xB9, 0xAC, 0x9F, 0xF1, 0x41];
-    assert_eq!(rt; told(&short, heap)?, (2, 3));
+    assert_eq!(rt; told(&short, heap)?, Some((2, 3)));
     Ok(())
 }
 
@@ -70,29 +68,29 @@ fn a_task(rt: HostRuntime) -> Result<(), Fail> {
 #[test]
 fn faults(rt: HostRuntime) -> Result<(), Fail> {
     let heap = rt.alloc();
-    assert_eq!(rt; told(&[0x20, 0], heap)?, (1, 0));
-    assert_eq!(rt; told(&[0x20, 0, 1], heap)?, (2, 0));
+    assert_eq!(rt; told(&[0x20, 0], heap)?, Some((1, 0)));
+    assert_eq!(rt; told(&[0x20, 0, 1], heap)?, Some((2, 0)));
     let blank = [0x21, 0, 0, 0, 0x03, 0xB9, 0xAC, 0xA0, 0x01, 0x20];
-    assert_eq!(rt; told(&blank, heap)?, (3, 3));
+    assert_eq!(rt; told(&blank, heap)?, Some((3, 3)));
     assert_eq!(rt;
         told(extended(&TWO, &[0x02], 1, heap)?.as_slice(), heap)?,
-        (4, 17)
+        Some((4, 17))
     );
     assert_eq!(rt;
         told(extended(&TWO, &[0x10], 1, heap)?.as_slice(), heap)?,
-        (5, 17)
+        Some((5, 17))
     );
     assert_eq!(rt;
         told(extended(&TWO, &[0x01], 1, heap)?.as_slice(), heap)?,
-        (0, 0)
+        None
     );
     assert_eq!(rt;
         told(extended(&TWO, &[0x01], 2, heap)?.as_slice(), heap)?,
-        (6, 18)
+        Some((6, 18))
     );
     assert_eq!(rt;
         told(extended(&CROWD, &TASK, 17, heap)?.as_slice(), heap)?,
-        (7, 730)
+        Some((7, 730))
     );
     Ok(())
 }

@@ -8,15 +8,15 @@ use std::test::Fail;
 use terms::numbers::Picos;
 use terms::refusal::Refusal;
 
+/// Whether this text was written into a buffer of points, and nothing behind it.
+pub(super) fn is_written(written: Result<usize, Refusal>, out: &[u8], text: &[u8]) -> bool {
+    written == Ok(text.len()) && out.starts_with(text) && out.get(text.len()) == Some(&b'.')
+}
+
 /// Whether a number is written as this text, and nothing behind it.
 fn shows(n: u64, text: &[u8]) -> bool {
     let mut out = [b'.'; 24];
-    match write_number(n, &mut out) {
-        Ok(length) => length == text.len()
-            && out.starts_with(text)
-            && out.get(length) == Some(&b'.'),
-        Err(_) => false,
-    }
+    is_written(write_number(n, &mut out), &out, text)
 }
 
 #[test]

@@ -6,35 +6,43 @@ use std::alloc::{AllocError, Global};
 use std::fs;
 use tables::held::Tables;
 use tables::room::Room;
+use terms::refusal::Refusal;
 
-/// What reading a file answers: nothing where it is accepted, else the refusal's number and what it tells.
-type Answer = Option<(usize, usize)>;
+/// What reading a file answers: nothing where it is accepted, else the refusal.
+type Answer = Option<Refusal>;
 
 fn answer(heap: Global, file: &[u8]) -> Result<Answer, AllocError> {
-    let room = Room::reserve(heap)?;
-    match Tables::read(room, file) {
-        Ok(_) => Ok(None),
-        Err(refusal) => Ok(Some((refusal.number(), refusal.tells()))),
+    Ok(Tables::read(Room::reserve(heap)?, file).err())
+}
+
+/// What becomes of a file with one bit turned; bit 0 is the highest of the first byte. The file is then as it was.
+fn answer_turned(heap: Global, file: &mut [u8], bit: usize) -> Result<Answer, AllocError> {
+    let turn = 128 >> (bit % 8);
+    if let Some(byte) = file.get_mut(bit / 8) {
+        *byte ^= turn;
     }
+    let next = answer(heap, file)?;
+    if let Some(byte) = file.get_mut(bit / 8) {
+        *byte ^= turn;
+    }
+    Ok(next)
 }
 
 /// Files with the same answer, from one on.
 #[derive(Drop)]
-struct Run {
-    kind: &'static str,
+struct Run<'a> {
+    kind: &'a str,
     from: usize,
     answer: Answer,
 }
 
-impl Run {
+impl Run<'_> {
     fn show(&self, rt: &HostRuntime, to: usize) -> anyhow::Result<()> {
         let kind = self.kind;
         let from = self.from;
         match self.answer {
             None => println!(rt; "{kind} {from}-{to}: accepted")?,
-            Some((number, tells)) => println!(rt;
-                "{kind} {from}-{to}: refused {number} at {tells}"
-            )?,
+            Some(refusal) => println!(rt; "{kind} {from}-{to}: {refusal}")?,
         }
         Ok(())
     }
@@ -50,48 +58,33 @@ impl Run {
     }
 }
 
-fn cut_files(rt: &HostRuntime, file: &[u8]) -> anyhow::Result<()> {
+/// Shows what becomes of the files of a kind, from file 0 to the last.
+fn show_all<F: FnMut(usize) -> Result<Answer, AllocError>>(
+    rt: &HostRuntime,
+    kind: &str,
+    last: usize,
+    mut answer: F,
+) -> anyhow::Result<()>
+    requires { (state : F) (at : _) → F.pre state at }
+{
     let mut run = Run {
-        kind: "prefix",
+        kind,
         from: 0,
-        answer: answer(rt.alloc(), &file[0..0])?,
+        answer: answer(0)?,
     };
-    for n in 0..file.len() {
-        run.next(rt, n, answer(rt.alloc(), &file[0..n])?)?;
+    for at in 1..=last {
+        run.next(rt, at, answer(at)?)?;
     }
-    run.next(rt, file.len(), answer(rt.alloc(), file)?)?;
-    run.show(rt, file.len())
-}
-
-fn turned_files(rt: &HostRuntime, file: &mut [u8]) -> anyhow::Result<()> {
-    let mut run = Run {
-        kind: "bit",
-        from: 0,
-        answer: Some((0, 0)),
-    };
-    let mut bit: usize = 0;
-    for i in 0..file.len() {
-        for shift in 0..8u32 {
-            let byte = file[i];
-            file[i] = byte ^ (128 >> shift);
-            let next = answer(rt.alloc(), file)?;
-            file[i] = byte;
-            if bit == 0 {
-                run.answer = next;
-            }
-            run.next(rt, bit, next)?;
-            bit = bit.saturating_add(1);
-        }
-    }
-    run.show(rt, bit.saturating_sub(1))
-}
-
-fn read_all(rt: &HostRuntime) -> anyhow::Result<()> {
-    let mut file = fs::read(rt, "station.tab")?;
-    cut_files(rt, file.as_slice())?;
-    turned_files(rt, file.as_mut_slice())
+    run.show(rt, last)
 }
 
 fn main(rt: HostRuntime) -> anyhow::Result<()> {
-    read_all(&rt)
+    let heap = rt.alloc();
+    let mut file = fs::read(&rt, "station.tab")?;
+    let bytes = file.as_mut_slice();
+    show_all(&rt, "prefix", bytes.len(), |n| {
+        answer(heap, bytes.get(..n).unwrap_or(&[]))
+    })?;
+    let last = bytes.len().saturating_mul(8).saturating_sub(1);
+    show_all(&rt, "bit", last, |bit| answer_turned(heap, bytes, bit))
 }

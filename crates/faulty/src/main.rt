@@ -2,38 +2,20 @@
 //! prints what becomes of every one.
 #![tactic(auto)]
 
-use anyhow::anyhow;
-use std::fs;
+use anyhow::Context;
+use std::{fs, str};
 use tables::held::Tables;
 use tables::room::Room;
 
 /// The first word of a line, and what follows it.
 fn word(line: &str) -> anyhow::Result<(&str, &str)> {
-    match line.split_once(' ') {
-        Some(parts) => Ok(parts),
-        None => Err(anyhow!("a line ends too early")),
-    }
+    line.split_once(' ').context("a line ends too early")
 }
 
-fn digit(byte: u8) -> u8 {
-    match byte {
-        b'0'..=b'9' => byte - b'0',
-        b'a'..=b'f' => byte - b'a' + 10,
-        _ => 0,
-    }
-}
-
-/// Adds the bytes that hexadecimal digits tell.
+/// Adds the bytes that hexadecimal digits tell, two digits a byte.
 fn add_bytes(file: &mut Vec<u8>, hex: &str) -> anyhow::Result<()> {
-    let mut high = None;
-    for byte in hex.as_bytes() {
-        match high {
-            None => high = Some(digit(*byte)),
-            Some(first) => {
-                file.push(first.wrapping_mul(16) | digit(*byte))?;
-                high = None;
-            }
-        }
+    for digits in hex.as_bytes().chunks_exact(2) {
+        file.push(u8::from_str_radix(str::from_utf8(digits)?, 16)?)?;
     }
     Ok(())
 }
@@ -64,15 +46,10 @@ fn read_case<'a>(rt: &HostRuntime, line: &'a str) -> anyhow::Result<Case<'a>> {
 fn faulty_files(rt: &HostRuntime) -> anyhow::Result<()> {
     let table = fs::read_to_string(rt, "faults.txt")?;
     for line in table.lines() {
-        let case = read_case(rt, line)?;
-        let what = case.what;
-        match Tables::read(Room::reserve(rt.alloc())?, case.file.as_slice()) {
+        let Case { file, what } = read_case(rt, line)?;
+        match Tables::read(Room::reserve(rt.alloc())?, file.as_slice()) {
             Ok(_) => println!(rt; "{what}: accepted")?,
-            Err(refusal) => {
-                let number = refusal.number();
-                let tells = refusal.tells();
-                println!(rt; "{what}: refused {number} at {tells}")?
-            }
+            Err(refusal) => println!(rt; "{what}: {refusal}")?,
         }
     }
     Ok(())

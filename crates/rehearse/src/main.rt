@@ -3,7 +3,6 @@
 
 mod day;
 mod decimal;
-mod input;
 mod parse;
 mod pieces;
 mod script;
@@ -13,8 +12,8 @@ mod tests;
 mod transcript;
 
 use day::rehearse_day;
-use input::first_bytes;
 use plan::outcome::Outcome;
+use report::input::first_bytes;
 use script::Script;
 use std::io;
 use std::io::Write;

@@ -1,10 +1,12 @@
 -- A text in the front of a buffer, and more of it behind. Assumes nothing.
-use Rattle.std.proofs.Common.{◌≡◌, ℕ, ◌+◌, ◌-◌, ◌/◌, ◌%◌, ◌^◌, ◌<◌, ◌≤◌, List, [], ◌∷◌, ◌++◌, length, get_or, take, drop, set, decimal, sym, refl, ap, ◌∙◌, append_assoc, arith}
+use Rattle.std.proofs.Common.{◌≡◌, ℕ, ◌+◌, ◌-◌, ◌/◌, ◌%◌, ◌^◌, ◌<◌, ◌≤◌, List, [], ◌∷◌, ◌++◌, length, get_or, take, drop, set, decimal, Ok, Err, Result, sym, refl, ap, ◌∙◌, subst, append_assoc, arith}
 use borrow.Rule.Slice.PartMut.{put_mid}
-use Rattle.std.proofs.lemmas.Fmt.{decimal_digit, decimal_step}
+use Rattle.std.proofs.lemmas.Fmt.{decimal_digit, decimal_is_IsNumeral, decimal_step}
+use Rattle.std.specs.Str.Parse.{IsNumeral, digits_value}
+use Rattle.terms.specs.declared.refusal.Refusal.{Refusal}
 use Rattle.std.proofs.lemmas.List.{append-nil, drop_all, drop_at, drop-drop, drop_more, length-append, length-drop, length_push, set_at, take_at, take_rest}
 use Rattle.report.proofs.Decimal.{length_step}
-use Rattle.report.specs.Text.{Put}
+use Rattle.report.specs.Text.{Put, ReadsBack, Written}
 
 -- one byte behind the text
 pub byte_behind : (text old : List ℕ) (b : ℕ) → length text < length old → set (text ++ drop (length text) old) (length text) b ≡ (text ++ b ∷ []) ++ drop (length (text ++ b ∷ [])) old
@@ -54,17 +56,11 @@ put_more a b old mid ys n m p q = record {
       ∙ ap (λ k. (a ++ b) ++ drop k old) (sym (length-append a b));
 }
 
--- a buffer with room for both texts has room for the first
-pub room_first : (a b old : List ℕ) → length (a ++ b) ≤ length old → length a ≤ length old
-room_first a b old room = omega (arith, length-append a b)
-
--- it keeps its length
-pub put_length : (text old mid : List ℕ) (n : ℕ) → Put text old n mid → length text ≤ length old → length mid ≡ length old
-put_length text old mid n p room = ap length p.after ∙ length-append text (drop (length text) old) ∙ omega (arith, length-drop (length text) old)
-
-pub put_within : (text old mid : List ℕ) (n : ℕ) → Put text old n mid → length text ≤ length old → n ≤ length mid
-put_within text old mid n p room = omega (arith, p.long, put_length text old mid n p room)
-
--- and its rest has room for the second
+-- a buffer with room for both texts has room for the second in the rest
 pub room_second : (a b old mid : List ℕ) (n : ℕ) → Put a old n mid → length (a ++ b) ≤ length old → length b ≤ length (take (length mid - n) (drop n mid))
 room_second a b old mid n p room = omega (arith, ap length (rest_of a old mid n p), length-drop (length a) old, length-append a b)
+
+-- a number that was written reads back
+pub reads_back : (n : ℕ) (old : List ℕ) (r : Result ℕ Refusal) (new : List ℕ) → n < 2 ^ 64 → Written (decimal n) old r new → ReadsBack n r new
+reads_back n old (Ok m) new fits w = subst (λ (ds : List ℕ). IsNumeral 10 ds × (digits_value 10 ds ≡ n)) (sym (put_reads (decimal n) old new m w.1)) (decimal_is_IsNumeral n fits)
+reads_back n old (Err e) new fits w = tt

@@ -1,12 +1,9 @@
 -- The lines of some times, one more at a time. Assumes nothing.
 use Rattle.std.proofs.Common.{◌≡◌, ℕ, zero, suc, ◌+◌, ◌-◌, ◌<◌, ◌≤◌, List, [], ◌∷◌, ◌++◌, length, get_or, take, drop, sym, ap, ◌∙◌, subst, append_assoc, add-zero, zero-add, add-one, arith}
 use borrow.Rule.Slice.PartMut.{put_mid}
-use Rattle.std.proofs.lemmas.List.{append-nil, get_or-take, length-append, length-take-le, take_all}
+use Rattle.std.proofs.lemmas.List.{append-nil, length-append}
 use Rattle.terms.specs.Units.{Picos}
-use Rattle.tables.specs.Ranges.{no_time}
-use Rattle.report.specs.Listed.{listed}
 use Rattle.report.specs.Text.{Put, line, lines, listing}
-use Rattle.report.specs.declared.times.Times.{Times}
 use Rattle.report.proofs.Puts.{put_more}
 
 lines_suc : (k i : ℕ) (ts : List Picos) (d : Picos) → i < length ts → lines k (take (suc i) ts) ≡ lines k (take i ts) ++ line (k + i) (get_or ts i d).0
@@ -27,32 +24,22 @@ lines_le k zero ts = omega arith
 lines_le k (suc i) [] = omega arith
 lines_le k (suc i) (t ∷ ts) = omega (arith, lines_le (k + 1) i ts, length-append (line k t.0) (lines (k + 1) (take i ts)), length-append (line k t.0) (lines (k + 1) ts))
 
-module _ (x : Times) where
-  length_listed : length (listed x) ≡ x.count
-  length_listed = length-take-le x.count x.entries (omega (arith, x.full, x.few))
+module _ (ts : List Picos) (k : ℕ) (d : Picos) (text : List ℕ) (below : k < length ts) (is : text ≡ line k (get_or ts k d).0) where
+  -- the lines of the first k times, with the next line, are those of one more
+  pub row_more : lines 0 (take k ts) ++ text ≡ lines 0 (take (k + 1) ts)
+  row_more =
+      ap (λ xs. lines 0 (take k ts) ++ xs) is
+      ∙ ap (λ j. lines 0 (take k ts) ++ line j (get_or ts k d).0) (sym (zero-add k))
+      ∙ sym (lines_more 0 k ts d below)
 
-  module _ (k : ℕ) (t : Picos) (n : ℕ) (below : k < x.count) (is : t ≡ get_or x.entries k no_time) (same : n ≡ t.0) where
-    -- the lines of the first k times, with the next line, are those of one more
-    pub row_more : lines 0 (take k (listed x)) ++ line k n ≡ lines 0 (take (k + 1) (listed x))
-    row_more =
-        let here = is ∙ sym (get_or-take x.count x.entries k no_time below) in
-        let more = lines_more 0 k (listed x) no_time (omega (arith, length_listed)) in
-        ap (λ (m : ℕ). lines 0 (take k (listed x)) ++ line k m) (same ∙ ap (λ (u : Picos). u.0) here)
-        ∙ ap (λ j. lines 0 (take k (listed x)) ++ line j (get_or (listed x) k no_time).0) (sym (zero-add k))
-        ∙ sym more
+  pub length_row : length (lines 0 (take k ts)) + length text ≡ length (lines 0 (take (k + 1) ts))
+  length_row = sym (length-append (lines 0 (take k ts)) text) ∙ ap length row_more
 
-    pub length_row : length (lines 0 (take k (listed x))) + length (line k n) ≡ length (lines 0 (take (k + 1) (listed x)))
-    length_row = sym (length-append (lines 0 (take k (listed x))) (line k n)) ∙ ap length row_more
+  -- they are no longer than the listing
+  pub row_room : (old : List ℕ) → length (listing ts) ≤ length old → length (lines 0 (take k ts) ++ text) ≤ length old
+  row_room old room = omega (arith, ap length row_more, lines_le 0 (k + 1) ts)
 
-    -- they are no longer than the listing
-    pub row_room : (old : List ℕ) → length (listing (listed x)) ≤ length old → length (lines 0 (take k (listed x)) ++ line k n) ≤ length old
-    row_room old room = omega (arith, ap length row_more, lines_le 0 (k + 1) (listed x))
-
-    -- the next line is put into the rest of the buffer
-    pub put_row : (old mid ys : List ℕ) (at r : ℕ) → Put (lines 0 (take k (listed x))) old at mid → Put (line k n) (take (length mid - at) (drop at mid)) r ys → Put (lines 0 (take (k + 1) (listed x))) old (at + r) (put_mid at (length mid - at) mid ys)
-    put_row old mid ys at r p q =
-        subst (λ (text : List ℕ). Put text old (at + r) (put_mid at (length mid - at) mid ys)) row_more (put_more (lines 0 (take k (listed x))) (line k n) old mid ys at r p q)
-
-  -- the lines of all
-  pub rows_all : (k : ℕ) → x.count ≤ k → lines 0 (take k (listed x)) ≡ listing (listed x)
-  rows_all k all = ap (λ ts. lines 0 ts) (take_all k (listed x) (omega (arith, length_listed)))
+  -- the next line is put into the rest of the buffer
+  pub put_row : (old mid ys : List ℕ) (at r : ℕ) → Put (lines 0 (take k ts)) old at mid → Put text (take (length mid - at) (drop at mid)) r ys → Put (lines 0 (take (k + 1) ts)) old (at + r) (put_mid at (length mid - at) mid ys)
+  put_row old mid ys at r p q =
+      subst (λ (all : List ℕ). Put all old (at + r) (put_mid at (length mid - at) mid ys)) row_more (put_more (lines 0 (take k ts)) text old mid ys at r p q)

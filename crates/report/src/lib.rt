@@ -9,5 +9,6 @@ mod lines;
 pub mod listing;
 pub mod refused;
 mod room;
+mod text;
 pub mod times;
 pub mod worked;

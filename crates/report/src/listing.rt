@@ -1,36 +1,53 @@
 //! The listing: one line for each time.
-ghost use Rattle.std.specs.Prelude.{◌≡◌, ◌≤◌, true, length, is_ok};
+ghost use Rattle.std.specs.Prelude.{◌≡◌, ℕ, ◌≤◌, true, length, is_ok, codes};
 ghost use Rattle.report.specs.Listed.{listed};
-ghost use Rattle.report.specs.Text.{Put, Written, listing};
+ghost use Rattle.report.specs.Text.{Written, line, listing};
 
-use super::lines::{line_length, put_line};
-use super::room::fits;
+use super::lines::{Labelled, Line};
+use super::text::{Text, write};
 use super::times::Times;
+use terms::numbers::Picos;
 use terms::refusal::Refusal;
 
-/// How long the listing is.
-fn listing_length(times: &Times) -> usize
-    ensures is { result ≡ length (listing (listed times.now)) }
-    ensures few { result ≤ 3648 }
+/// The line of a time with its number.
+fn row(k: usize, time: Picos) -> Line<'static>
+    ensures { ⟦<Line<'static> as Text>⟧.text result ≡ line k time.0 }
 {
-    let mut needed = 0;
-    for k in 0..times.count() {
-        needed += line_length(b"", k as u64, b" ", times.at(k).get());
+    Line {
+        first: Labelled {
+            label: b"",
+            n: k as u64,
+        },
+        second: Labelled {
+            label: b" ",
+            n: time.get(),
+        },
     }
-    needed
 }
 
-/// Puts the lines into the front of a buffer that has room for them, and tells their length. Each goes into the rest
-/// that those before it have left.
-fn put_listing(times: &Times, out: &mut [u8]) -> usize
-    requires { length (listing (listed times.now)) ≤ length out.old }
-    ensures { Put (listing (listed times.now)) out.old result out.new }
-{
-    let mut at = 0;
-    for k in 0..times.count() {
-        at += put_line(b"", k as u64, b" ", times.at(k).get(), &mut out[at..]);
+impl Text for Times {
+    ghost text = { λ x. listing (listed x) };
+
+    ghost most = { 3648 };
+
+    fn length(&self) -> usize {
+        let times = self.as_slice();
+        let mut needed = 0;
+        for (k, time) in times.iter().enumerate() {
+            needed += row(k, *time).length();
+        }
+        needed
     }
-    at
+
+    /// Each line goes into the rest that those before it have left.
+    fn put(&self, out: &mut [u8]) -> usize {
+        let times = self.as_slice();
+        let mut at = 0;
+        for (k, time) in times.iter().enumerate() {
+            at += row(k, *time).put(&mut out[at..]);
+        }
+        at
+    }
 }
 
 /// The length of a buffer that no listing and no refusal is too long for: 64 lines of at most 57 bytes.
@@ -42,7 +59,5 @@ pub fn write_listing(times: &Times, out: &mut [u8]) -> Result<usize, Refusal>
     ensures enough { 3648 ≤ length out.old → is_ok result ≡ true }
     ensures written { Written (listing (listed times.now)) out.old result out.new }
 {
-    let needed = listing_length(times);
-    fits(needed, out.len())?;
-    Ok(put_listing(times, out))
+    write(times, out)
 }

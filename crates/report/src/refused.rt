@@ -1,32 +1,39 @@
 //! A refusal as a line of text.
 ghost use Rattle.std.specs.Prelude.{◌≡◌, ◌≤◌, true, length, is_ok};
-ghost use Rattle.report.specs.Text.{Put, Written, refused_line};
+ghost use Rattle.report.specs.Text.{Written, refused_line};
 
-use super::lines::{line_length, put_line};
-use super::room::fits;
+use super::lines::{Labelled, Line};
+use super::text::{Text, write};
 use terms::refusal::Refusal;
 
-/// How long the line of a refusal is.
-fn refusal_length(refusal: &Refusal) -> usize
-    ensures is { result ≡ length (refused_line refusal.now) }
-    ensures few { result ≤ 57 }
+/// The line of a refusal.
+fn line_of(refusal: &Refusal) -> Line<'static>
+    ensures { ⟦<Line<'static> as Text>⟧.text result ≡ refused_line refusal.now }
 {
-    line_length(
-        b"refused ",
-        refusal.number() as u64,
-        b" at ",
-        refusal.tells() as u64,
-    )
+    Line {
+        first: Labelled {
+            label: b"refused ",
+            n: refusal.number() as u64,
+        },
+        second: Labelled {
+            label: b" at ",
+            n: refusal.tells() as u64,
+        },
+    }
 }
 
-/// Puts the line of a refusal into the front of a buffer that has room for it, and tells its length.
-fn put_refusal(refusal: &Refusal, out: &mut [u8]) -> usize
-    requires { length (refused_line refusal.now) ≤ length out.old }
-    ensures { Put (refused_line refusal.now) out.old result out.new }
-{
-    let number = refusal.number() as u64;
-    let tells = refusal.tells() as u64;
-    put_line(b"refused ", number, b" at ", tells, out)
+impl Text for Refusal {
+    ghost text = { refused_line };
+
+    ghost most = { 57 };
+
+    fn length(&self) -> usize {
+        line_of(self).length()
+    }
+
+    fn put(&self, out: &mut [u8]) -> usize {
+        line_of(self).put(out)
+    }
 }
 
 /// Writes the line of a refusal into the front of a buffer, and tells its length; refuses a buffer that is too short,
@@ -35,7 +42,5 @@ pub fn write_refusal(refusal: &Refusal, out: &mut [u8]) -> Result<usize, Refusal
     ensures enough { 57 ≤ length out.old → is_ok result ≡ true }
     ensures written { Written (refused_line refusal.now) out.old result out.new }
 {
-    let needed = refusal_length(refusal);
-    fits(needed, out.len())?;
-    Ok(put_refusal(refusal, out))
+    write(refusal, out)
 }

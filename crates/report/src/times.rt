@@ -1,10 +1,11 @@
 //! The times that a listing shows.
-ghost use Rattle.std.specs.Prelude.{◌≡◌, ◌<◌, ◌≤◌, min, length, slice_index_or};
+ghost use Rattle.std.specs.Prelude.{◌≡◌, ◌<◌, ◌≤◌, min, length, slice_index_or, take};
 ghost use Rattle.tables.specs.Ranges.{no_time};
 
 use terms::numbers::Picos;
 
 /// The times of at most 64 tasks, in the order of their numbers.
+// an array with a count: no memory is asked for when a plan is listed
 #[derive(Drop)]
 pub struct Times {
     entries: [Picos; 64],
@@ -20,8 +21,17 @@ impl Times {
         ensures count { result.count ≡ min count 64 }
         ensures given { count ≤ 64 → result.count ≡ count }
     {
-        let count = if count < 64 { count } else { 64 };
-        Times { entries, count }
+        Times {
+            entries,
+            count: count.min(64),
+        }
+    }
+
+    /// The times, one after the other.
+    pub fn as_slice(&self) -> &[Picos]
+        ensures { result.now ≡ take self.now.count self.now.entries }
+    {
+        &self.entries[..self.count]
     }
 
     /// How many times there are.

@@ -1,12 +1,20 @@
 -- The slack of tasks, and the least of them. A task without a time has the time 0. Assumes nothing.
 use Rattle.std.specs.Prelude.{ℕ, ◌-◌, ◌<◌, ◌≤◌, Bool, true, List, Some, None, Option, nat_lt, slice_index_or}
-use Rattle.terms.specs.Units.{Picos}
 use Rattle.tables.specs.Ranges.{no_time}
+use Rattle.summary.specs.declared.slack.Limited.{Limited}
 
-module _ (times limits : List Picos) where
-  -- the limit of task k less its time
+-- the limit of a task less its time
+abbrev pub slack_of : Limited → ℕ
+slack_of x = x.limit.0 - x.time.0
+
+-- no time, and no limit
+abbrev pub no_task : Limited
+no_task = record { time = no_time; limit = no_time }
+
+module _ (tasks : List Limited) where
+  -- the slack of task k
   abbrev pub slack : ℕ → ℕ
-  slack k = (slice_index_or limits k no_time).0 - (slice_index_or times k no_time).0
+  slack k = slack_of (slice_index_or tasks k no_task)
 
   -- whether task k has less slack than another, or there is no other
   abbrev pub tighter : ℕ → Option ℕ → Bool
@@ -15,7 +23,7 @@ module _ (times limits : List Picos) where
 
   -- task k has a time
   abbrev pub Timed : ℕ → Type 0
-  Timed k = 0 < (slice_index_or times k no_time).0
+  Timed k = 0 < (slice_index_or tasks k no_task).time.0
 
   -- task i has a time, no task below n has less slack, and none before i has as little
   pub record LeastAt (n i : ℕ) : Type 0 where

@@ -6,22 +6,20 @@ mod sentences;
 mod slack;
 mod telling;
 
-use report::input::read_at_most;
+use report::input::{ALLOCATION_BYTES, TABLE_BYTES, first_bytes};
 use std::io;
 use tables::room::Room;
-use telling::tell_all;
+use telling::Teller;
 
 /// Reads station.tab and station.alloc in the working folder, each as far as one byte past the longest that there is.
 fn main(rt: HostRuntime) -> io::Result<()> {
-    let mut file = [0; 4_236];
-    let mut allocation = [0; 17];
-    let file_length = read_at_most(&rt, "station.tab", &mut file)?;
-    let allocation_length = read_at_most(&rt, "station.alloc", &mut allocation)?;
+    let file = first_bytes(&rt, "station.tab", TABLE_BYTES)?;
+    let allocation = first_bytes(&rt, "station.alloc", ALLOCATION_BYTES)?;
     let room = Room::reserve(rt.alloc())?;
-    tell_all(
-        &rt,
-        room,
-        &file[0..file_length],
-        &allocation[0..allocation_length],
-    )
+    let teller = Teller {
+        rt: &rt,
+        file: file.as_slice(),
+        allocation: allocation.as_slice(),
+    };
+    teller.tell_all(room)
 }

@@ -18,41 +18,52 @@ impl fmt::Display for Name<'_> {
     }
 }
 
-/// Goes past so many rows of kind `R`, where there are so many partitions.
-fn pass<R: Row + Drop>(
-    reader: &mut Reader<'_>,
+/// The rows of a file from one on, and how many partitions the file has.
+#[derive(Drop)]
+struct Rows<'a> {
+    reader: Reader<'a>,
     partitions: usize,
-    rows: usize,
-) -> Result<(), Refusal> {
-    for _ in 0..rows {
-        let _ = reader.row::<R>(partitions, &[])?;
+}
+
+impl<'a> Rows<'a> {
+    /// All rows.
+    fn of(file: &'a [u8]) -> Result<Rows<'a>, Refusal> {
+        let mut reader = Reader::new(file);
+        let partitions = reader.header()?.partitions;
+        Ok(Rows { reader, partitions })
     }
-    Ok(())
+
+    /// Goes past so many rows of kind `R`.
+    fn pass<R: Row + Drop>(&mut self, rows: usize) -> Result<(), Refusal> {
+        for _ in 0..rows {
+            let _ = self.reader.row::<R>(self.partitions, &[])?;
+        }
+        Ok(())
+    }
+
+    /// The row with this number from here on, all of kind `R`.
+    fn nth<R: Row + Drop>(&mut self, k: usize) -> Result<FileRow<'a>, Refusal> {
+        self.pass::<R>(k)?;
+        self.reader.row::<R>(self.partitions, &[])
+    }
 }
 
 /// The row of a partition.
 fn partition_row(file: &[u8], partition: usize) -> Result<FileRow<'_>, Refusal> {
-    let mut reader = Reader::new(file);
-    let partitions = reader.header()?.partitions;
-    pass::<Partition>(&mut reader, partitions, partition)?;
-    reader.row::<Partition>(partitions, &[])
+    Rows::of(file)?.nth::<Partition>(partition)
 }
 
 /// The row of a task.
 fn task_row(file: &[u8], task: usize) -> Result<FileRow<'_>, Refusal> {
-    let mut reader = Reader::new(file);
-    let partitions = reader.header()?.partitions;
-    pass::<Partition>(&mut reader, partitions, partitions)?;
-    pass::<Task>(&mut reader, partitions, task)?;
-    reader.row::<Task>(partitions, &[])
+    let mut rows = Rows::of(file)?;
+    let partitions = rows.partitions;
+    rows.pass::<Partition>(partitions)?;
+    rows.nth::<Task>(task)
 }
 
 /// The name of a row, or none where there is no such row.
 fn name_of(row: Result<FileRow<'_>, Refusal>) -> Name<'_> {
-    match row {
-        Ok(row) => Name(row.name().unwrap_or(b"")),
-        Err(_) => Name(b""),
-    }
+    Name(row.ok().and_then(|row| row.name()).unwrap_or(b""))
 }
 
 /// The name of a partition.

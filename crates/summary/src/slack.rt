@@ -1,39 +1,44 @@
 //! How much time is left to a task.
-ghost use Rattle.std.specs.Prelude.{◌≡◌, ◌<◌, ◌≤◌, length, IfSome};
-ghost use Rattle.summary.specs.Slack.{slack, tighter, Least};
+ghost use Rattle.std.specs.Prelude.{◌≡◌, ◌<◌, length, IfSome};
+ghost use Rattle.summary.specs.Slack.{slack_of, tighter, Least};
 
 use terms::numbers::Picos;
 
-/// The limit of a task less its time.
-pub(crate) fn slack_of(times: &[Picos], limits: &[Picos], k: usize) -> u64
-    requires times { k < length times.now }
-    requires limits { length times.now ≤ length limits.now }
-    ensures { result ≡ slack times.now limits.now k }
-{
-    limits[k].get().saturating_sub(times[k].get())
+/// The time of a task, and its limit.
+#[derive(Clone, Copy)]
+pub(crate) struct Limited {
+    pub(crate) time: Picos,
+    pub(crate) limit: Picos,
+}
+
+impl Limited {
+    /// The limit less the time.
+    pub(crate) fn slack(self) -> u64
+        ensures { result ≡ slack_of self }
+    {
+        self.limit.get().saturating_sub(self.time.get())
+    }
 }
 
 /// Whether task `k` has less slack than another, or there is no other.
-fn is_tighter(times: &[Picos], limits: &[Picos], k: usize, other: Option<usize>) -> bool
-    requires times { k < length times.now }
-    requires limits { length times.now ≤ length limits.now }
-    requires other { IfSome other (λ i. i < length times.now) }
-    ensures { result ≡ tighter times.now limits.now k other }
+fn is_tighter(tasks: &[Limited], k: usize, other: Option<usize>) -> bool
+    requires k { k < length tasks.now }
+    requires other { IfSome other (λ i. i < length tasks.now) }
+    ensures { result ≡ tighter tasks.now k other }
 {
     match other {
-        Some(i) => slack_of(times, limits, k) < slack_of(times, limits, i),
+        Some(i) => tasks[k].slack() < tasks[i].slack(),
         None => true,
     }
 }
 
 /// The task with the least slack, the first among equals, of those that have a time.
-pub(crate) fn least_slack(times: &[Picos], limits: &[Picos]) -> Option<usize>
-    requires { length times.now ≤ length limits.now }
-    ensures { Least times.now limits.now (length times.now) result }
+pub(crate) fn least_slack(tasks: &[Limited]) -> Option<usize>
+    ensures { Least tasks.now (length tasks.now) result }
 {
     let mut least = None;
-    for k in 0..times.len() {
-        if times[k].get() > 0 && is_tighter(times, limits, k, least) {
+    for (k, task) in tasks.iter().enumerate() {
+        if task.time > Picos::NONE && is_tighter(tasks, k, least) {
             least = Some(k);
         }
     }

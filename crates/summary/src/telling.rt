@@ -1,7 +1,7 @@
 //! What the program tells, line by line.
 use super::names::{partition_name, task_name};
 use super::sentences::sentence_of;
-use super::slack::{least_slack, slack_of};
+use super::slack::{Limited, least_slack};
 use arbiter::arbiter::Arbiter;
 use arbiter::station::{Pile, station};
 use plan::adoption::UNPLACED;
@@ -12,122 +12,124 @@ use tables::room::Room;
 use terms::numbers::Picos;
 use terms::refusal::Refusal;
 
-/// Tells all of a table file and an allocation.
-pub(crate) fn tell_all(
-    rt: &HostRuntime,
-    room: Room,
-    file: &[u8],
-    allocation: &[u8],
-) -> io::Result<()> {
-    match Plan::from_file(room, file) {
-        Ok(plan) => {
-            tell_counts(rt, file)?;
-            tell_allocation(rt, allocation)?;
-            tell_verdict(rt, plan, file, allocation)
+/// What is told of: a table file and an allocation.
+#[derive(Clone, Copy)]
+pub(crate) struct Teller<'a> {
+    pub(crate) rt: &'a HostRuntime,
+    pub(crate) file: &'a [u8],
+    pub(crate) allocation: &'a [u8],
+}
+
+impl Teller<'_> {
+    /// Tells all of the file and the allocation.
+    pub(crate) fn tell_all(&self, room: Room) -> io::Result<()> {
+        match Plan::from_file(room, self.file) {
+            Ok(plan) => {
+                self.tell_counts()?;
+                self.tell_allocation()?;
+                self.tell_verdict(plan)
+            }
+            Err(refusal) => {
+                println!(self.rt; "Read station.tab: {} bytes.", self.file.len())?;
+                self.tell_allocation()?;
+                self.tell_refusal(&refusal)
+            }
         }
-        Err(refusal) => {
-            println!(rt; "Read station.tab: {} bytes.", file.len())?;
-            tell_allocation(rt, allocation)?;
-            tell_refusal(rt, &refusal)
+    }
+
+    /// Tells the size of an accepted file, and how many of each kind it has.
+    fn tell_counts(&self) -> io::Result<()> {
+        let bytes = self.file.len();
+        match Reader::new(self.file).header() {
+            Ok(header) => {
+                let cores = header.cores;
+                let partitions = header.partitions;
+                let tasks = header.tasks;
+                let links = header.links;
+                println!(self.rt;
+                    "Read station.tab: {bytes} bytes, {cores} cores, {partitions} partitions, {tasks} tasks, {links} links."
+                )
+            }
+            Err(_) => println!(self.rt; "Read station.tab: {bytes} bytes."),
         }
+    }
+
+    /// Tells the size of the allocation.
+    fn tell_allocation(&self) -> io::Result<()> {
+        println!(self.rt; "Read station.alloc: {} bytes.", self.allocation.len())
+    }
+
+    /// Tells a refusal.
+    fn tell_refusal(&self, refusal: &Refusal) -> io::Result<()> {
+        let sentence = sentence_of(refusal);
+        println!(self.rt; "Verdict: {refusal}. {sentence}")
+    }
+
+    /// Tells what becomes of a plan that is asked to adopt the allocation.
+    fn tell_verdict(&self, mut plan: Plan) -> io::Result<()> {
+        let pile = station(plan.cores()).unwrap();
+        match plan.adopt(self.allocation, &pile) {
+            Ok(()) => {
+                self.tell_partitions()?;
+                println!(self.rt; "Verdict: accepted. Every placed task meets its limit.")?;
+                self.tell_least_slack(&plan, &pile)
+            }
+            Err(Refusal::Late { task }) => {
+                self.tell_partitions()?;
+                self.tell_refusal(&Refusal::Late { task })?;
+                self.tell_late(&plan, task)
+            }
+            Err(refusal) => self.tell_refusal(&refusal),
+        }
+    }
+
+    /// Tells where the allocation puts each partition.
+    fn tell_partitions(&self) -> io::Result<()> {
+        for (k, entry) in self.allocation.iter().enumerate() {
+            let name = partition_name(self.file, k);
+            if *entry == UNPLACED {
+                println!(self.rt; "Partition {k} {name}: unplaced.")?;
+            } else {
+                println!(self.rt; "Partition {k} {name}: core {entry}.")?;
+            }
+        }
+        Ok(())
+    }
+
+    /// Tells of the late task.
+    fn tell_late(&self, plan: &Plan, task: usize) -> io::Result<()> {
+        let name = task_name(self.file, task);
+        let limit = limit_of(plan, task).get();
+        println!(self.rt; "Late: task {task} {name}, limit {limit} ps.")
+    }
+
+    /// Tells of the task with the least slack.
+    fn tell_least_slack(&self, plan: &Plan, pile: &Pile) -> io::Result<()> {
+        let mut times = [Picos::NONE; 64];
+        let _ = plan.times(&mut times, pile);
+        let tasks = times
+            .iter()
+            .enumerate()
+            .map(|(k, time)| Limited {
+                time: *time,
+                limit: limit_of(plan, k),
+            })
+            .collect::<Vec<Limited>>(self.rt.alloc())?;
+        let Some(task) = least_slack(tasks.as_slice()) else {
+            return println!(self.rt; "No task is placed.");
+        };
+        let name = task_name(self.file, task);
+        let Limited { time, limit } = tasks[task];
+        let slack = tasks[task].slack();
+        println!(self.rt;
+            "Least slack: task {task} {name}, time {} ps, limit {} ps, slack {slack} ps.",
+            time.get(),
+            limit.get()
+        )
     }
 }
 
-/// Tells the size of an accepted file, and how many of each kind it has.
-fn tell_counts(rt: &HostRuntime, file: &[u8]) -> io::Result<()> {
-    let bytes = file.len();
-    match Reader::new(file).header() {
-        Ok(header) => {
-            let cores = header.cores;
-            let partitions = header.partitions;
-            let tasks = header.tasks;
-            let links = header.links;
-            println!(rt;
-                "Read station.tab: {bytes} bytes, {cores} cores, {partitions} partitions, {tasks} tasks, {links} links."
-            )
-        }
-        Err(_) => println!(rt; "Read station.tab: {bytes} bytes."),
-    }
-}
-
-/// Tells the size of the allocation.
-fn tell_allocation(rt: &HostRuntime, allocation: &[u8]) -> io::Result<()> {
-    println!(rt; "Read station.alloc: {} bytes.", allocation.len())
-}
-
-/// Tells a refusal.
-fn tell_refusal(rt: &HostRuntime, refusal: &Refusal) -> io::Result<()> {
-    let number = refusal.number();
-    let tells = refusal.tells();
-    let sentence = sentence_of(refusal);
-    println!(rt; "Verdict: refused {number} at {tells}. {sentence}")
-}
-
-/// Tells what becomes of a plan that is asked to adopt the allocation.
-fn tell_verdict(
-    rt: &HostRuntime,
-    mut plan: Plan,
-    file: &[u8],
-    allocation: &[u8],
-) -> io::Result<()> {
-    let pile = station(plan.cores()).unwrap();
-    match plan.adopt(allocation, &pile) {
-        Ok(()) => {
-            tell_partitions(rt, file, allocation)?;
-            println!(rt; "Verdict: accepted. Every placed task meets its limit.")?;
-            tell_least_slack(rt, &plan, &pile, file)
-        }
-        Err(Refusal::Late { task }) => {
-            tell_partitions(rt, file, allocation)?;
-            tell_refusal(rt, &Refusal::Late { task })?;
-            tell_late(rt, &plan, file, task)
-        }
-        Err(refusal) => tell_refusal(rt, &refusal),
-    }
-}
-
-/// Tells where the allocation puts each partition.
-fn tell_partitions(rt: &HostRuntime, file: &[u8], allocation: &[u8]) -> io::Result<()> {
-    for (k, entry) in allocation.iter().enumerate() {
-        let name = partition_name(file, k);
-        if *entry == UNPLACED {
-            println!(rt; "Partition {k} {name}: unplaced.")?;
-        } else {
-            println!(rt; "Partition {k} {name}: core {}.", *entry)?;
-        }
-    }
-    Ok(())
-}
-
-/// Tells of the late task.
-fn tell_late(rt: &HostRuntime, plan: &Plan, file: &[u8], task: usize) -> io::Result<()> {
-    let name = task_name(file, task);
-    let limit = plan.limit(task).unwrap_or(Picos::NONE).get();
-    println!(rt; "Late: task {task} {name}, limit {limit} ps.")
-}
-
-/// The limit of each task, and 0 past the last.
-fn limits_of(plan: &Plan) -> [Picos; 64] {
-    let mut limits = [Picos::NONE; 64];
-    for k in 0..64 {
-        limits[k] = plan.limit(k).unwrap_or(Picos::NONE);
-    }
-    limits
-}
-
-/// Tells of the task with the least slack.
-fn tell_least_slack(rt: &HostRuntime, plan: &Plan, pile: &Pile, file: &[u8]) -> io::Result<()> {
-    let mut times = [Picos::NONE; 64];
-    let _ = plan.times(&mut times, pile);
-    let limits = limits_of(plan);
-    let Some(task) = least_slack(&times, &limits) else {
-        return println!(rt; "No task is placed.");
-    };
-    let name = task_name(file, task);
-    let time = times[task].get();
-    let limit = limits[task].get();
-    let slack = slack_of(&times, &limits, task);
-    println!(rt;
-        "Least slack: task {task} {name}, time {time} ps, limit {limit} ps, slack {slack} ps."
-    )
+/// The limit of a task, and 0 where there is no such task.
+fn limit_of(plan: &Plan, task: usize) -> Picos {
+    plan.limit(task).unwrap_or(Picos::NONE)
 }

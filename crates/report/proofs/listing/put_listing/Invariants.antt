@@ -1,7 +1,0 @@
-use Rattle.std.proofs.Common.{take}
-use Rattle.report.specs.Listed.{listed}
-use Rattle.report.specs.Text.{Put, lines}
-use Rattle.report.proofs.listing.put_listing.Given as goal
-
-abbrev pub invariant-loop-k : goal.invariant-loop-k
-invariant-loop-k l = Put (lines 0 (take l.k (listed l.times))) l.initial.out l.at l.out
