@@ -36,8 +36,7 @@ impl Header {
     pub fn is_in_range(&self) -> bool
         ensures { result ≡ header_in_range self.now }
     {
-        1 <= self.cores
-            && self.cores <= Core::MOST
+        (1..=Core::MOST).contains(&self.cores)
             && self.partitions <= Partition::GREATEST
             && self.tasks <= Task::GREATEST
             && self.links <= Link::GREATEST

@@ -36,9 +36,9 @@ impl Timing {
     pub fn new(numbers: Numbers) -> Result<Timing, Refusal>
         ensures { MatchResult result (λ t. (first_out 0 (numbers_in_range numbers) ≡ None) × Timed numbers t) (λ e. (k : ℕ) × (told e ≡ (14, k)) × (first_out 0 (numbers_in_range numbers) ≡ Some k)) }
     {
-        if let Some(position) = numbers.first_out_of_range() {
-            return Err(Refusal::NumberRange { position });
+        match numbers.first_out_of_range() {
+            Some(position) => Err(Refusal::NumberRange { position }),
+            None => Ok(Timing { numbers }),
         }
-        Ok(Timing { numbers })
     }
 }
