@@ -1,12 +1,12 @@
 -- What the jobs of all tasks ask for, one task more at a time. Assumes nothing.
-use Rattle.std.proofs.Common.{◌≡◌, ℕ, zero, suc, ◌+◌, ◌*◌, ◌^◌, ◌<◌, ◌≤◌, Bool, true, false, cond, eqb, List, length, get_or, set, replicate, sym, refl, ap, ◌∙◌, subst, inl, inr, add-zero, add-one, arith, length-set, get_or-set_other, get_or-set_same}
+use Rattle.std.proofs.Common.{◌≡◌, ℕ, ◌+◌, ◌*◌, ◌^◌, ◌<◌, ◌≤◌, Bool, true, false, cond, eqb, List, length, get_or, set, sym, refl, ap, ◌∙◌, subst, inl, inr, add-zero, add-one, arith, length-set, get_or-set_other, get_or-set_same}
 use Rattle.std.proofs.lemmas.Bool.{eq-eqb, ne_eqb, cond-true, cond-false, cases_eq}
 use Rattle.terms.specs.Cores.{number_of}
 use Rattle.terms.specs.Sums.{sum_where}
 use Rattle.terms.specs.declared.cores.Core.{Core}
 use Rattle.terms.specs.Units.{Picos, Requests}
 use Rattle.terms.proofs.Sums.{sum_took, sum_left}
-use Rattle.tables.specs.Ranges.{no_time, no_requests, no_task, execution_on, requests_on}
+use Rattle.tables.specs.Ranges.{no_requests, no_task, execution_on, requests_on}
 use Rattle.tables.specs.declared.model.Task.{Task}
 use Rattle.analysis.specs.Demand.{own_jobs, other_jobs}
 use Rattle.analysis.specs.Roles.{is_ahead, is_on}
@@ -28,13 +28,6 @@ raised counts n v more within e q =
           ap (λ (x : Requests). x.0) (get_or-set_other counts n q v no_requests (λ e. other (sym e)))
           ∙ sym (add-zero (count_at counts q)) ∙ ap (λ x. count_at counts q + x) (sym (cond-false (eqb n q) more 0 (ne_eqb n q other)))
     ]
-
-zeros : (q : ℕ) → q < 4 → count_at (replicate 4 no_requests) q ≡ 0
-zeros zero h = refl
-zeros (suc zero) h = refl
-zeros (suc (suc zero)) h = refl
-zeros (suc (suc (suc zero))) h = refl
-zeros (suc (suc (suc (suc q)))) h = absurd (omega arith)
 
 at_most : (b : Bool) (more : ℕ) → more ≤ 10 ^ 10 → cond b more 0 ≤ 10 ^ 10
 at_most true more h = h
@@ -79,9 +72,6 @@ module _ (tasks : List Task) (roles : List Role) (p t : ℕ) where
     pub few : requests.0 ≤ k * 10 ^ 10
     pub each_few : (q : ℕ) → q < 4 → count_at others q ≤ k * 10 ^ 10
     pub long : length others ≡ 4
-
-  pub asking_none : Asking 0 no_time no_requests (replicate 4 no_requests)
-  asking_none = record { time = refl; own = refl; each = λ q h. zeros q h; short = omega arith; few = omega arith; each_few = λ q h. omega (arith, zeros q h); long = refl }
 
   module _ (k : ℕ) (e : Picos) (r : Requests) (o : List Requests) (a : Asking k e r o) where
     -- a task that plays no part

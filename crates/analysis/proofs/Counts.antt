@@ -1,7 +1,6 @@
 -- Jobs: how many there are at most, and that they rise with the time. Assumes nothing.
-use Rattle.std.proofs.Common.{◌≡◌, ℕ, zero, suc, ◌+◌, ◌-◌, ◌*◌, ◌/◌, ◌^◌, ◌<◌, ◌≤◌, le_trans, le-div_iff_mul-le, div-mul-le_self, arith}
+use Rattle.std.proofs.Common.{ℕ, zero, suc, ◌+◌, ◌-◌, ◌*◌, ◌/◌, ◌<◌, ◌≤◌, le_trans, le-div_iff_mul-le, div-mul-le_self, arith}
 use native.Mathlib.Nat.{div-zero}
-use Rattle.std.proofs.lemmas.Nat.{div_below}
 use Rattle.analysis.specs.Demand.{jobs}
 
 div_rises : (k a b : ℕ) → a ≤ b → a / k ≤ b / k
@@ -13,16 +12,3 @@ div_rises (suc k) a b h =
 
 pub jobs_rise : (period t s : ℕ) → t ≤ s → jobs t period ≤ jobs s period
 jobs_rise period t s h = div_rises period (t + (period - 1)) (s + (period - 1)) (omega arith)
-
-pub jobs_few : (t period : ℕ) → t ≤ 10 ^ 13 → 10 ^ 9 ≤ period → jobs t period ≤ 10000
-jobs_few t period h slow =
-    let below : jobs t period < 10001 = div_below (t + (period - 1)) period 10001 (omega arith) (omega arith) in
-    omega arith
-
--- within the first period there is one job
-pub jobs_one : (t period : ℕ) → 0 < t → t ≤ period → jobs t period ≡ 1
-jobs_one t period some within =
-    let positive : 0 < period = omega arith in
-    let below : jobs t period < 2 = div_below (t + (period - 1)) period 2 (omega arith) (omega arith) in
-    let above : 1 ≤ jobs t period = (le-div_iff_mul-le positive).1 (omega arith) in
-    omega arith

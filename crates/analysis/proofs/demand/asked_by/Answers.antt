@@ -5,17 +5,6 @@ use Rattle.analysis.proofs.Asking.{Asking, asking_aside, asking_ahead, asking_ot
 use Rattle.analysis.proofs.demand.asked_by.Goals as goal
 use Rattle.analysis.proofs.demand.asked_by.Goals.{in-Ahead, in-Other, in-Aside}
 
-pub add_assign-requires : goal.add_assign-requires
-add_assign-requires c = let few = c.tasks-tasks.ensures.sound.few in omega (arith, c.own_share-share.ensures.small.0)
-
-pub add_assign-requires-in-Ahead : goal.add_assign-requires-in-Ahead
-add_assign-requires-in-Ahead c = let few = c.tasks-tasks.ensures.sound.few in omega (arith, c.own_share-share.ensures.small.1)
-
-pub add_assign-requires-in-Other : goal.add_assign-requires-in-Other
-add_assign-requires-in-Other c =
-    let few = c.tasks-tasks.ensures.sound.few in
-    omega (arith, c.other_share.ensures.small, c.loop-k.invariant.each_few c.from.result c.from.ensures.1)
-
 pub loop-k-preserved : goal.loop-k-preserved
 loop-k-preserved c =
     let tasks = c.tasks-tasks.result.now in
@@ -40,20 +29,12 @@ loop-k-preserved c =
       | in-Aside w ↦ moved tasks roles p t (k + 1) _ _ _ _ _ _ w.execution-is w.requests-is w.others-is (asking_aside tasks roles p t k e r o inv w.in-Aside.ensures)
     ]
 
-pub returns : goal.returns
-returns c =
+pub returns-clause-others : goal.returns-clause-others
+returns-clause-others c =
     let roles = c.args.roles.now.of in
     let p = number_of c.args.p in
     let t = c.args.t.t.0 in
-    let inv = c.loop-k.invariant in
     let all : c.loop-k.k ≡ length c.tasks-tasks.result.now = omega arith in
     let done = subst (λ (xs : List Task). Asking xs roles p t (length xs) c.loop-k.execution c.loop-k.requests c.loop-k.others) c.tasks-tasks.ensures.is
-    (subst (λ (n : ℕ). Asking c.tasks-tasks.result.now roles p t n c.loop-k.execution c.loop-k.requests c.loop-k.others) all inv) in
-    let few = c.tasks-tasks.ensures.sound.few in
-    record {
-      execution = done.time;
-      requests = done.own;
-      others = done.each;
-      four = done.long;
-      small = (omega (arith, inv.short), omega (arith, inv.few));
-    }
+    (subst (λ (n : ℕ). Asking c.tasks-tasks.result.now roles p t n c.loop-k.execution c.loop-k.requests c.loop-k.others) all c.loop-k.invariant) in
+    done.each

@@ -1,13 +1,9 @@
-use Rattle.std.proofs.Common.{sym, refl, ap, ◌∙◌, take_all}
+use Rattle.std.proofs.Common.{sym, ap, ◌∙◌}
 use Rattle.terms.specs.Cores.{number_of}
 use Rattle.arbiter.specs.Questions.{joined}
-use Rattle.analysis.specs.Placed.{sharing_of}
 use Rattle.analysis.proofs.Joins.{sharing_joined, sharing_passed}
 use Rattle.analysis.proofs.sharing.joined_by.Goals as goal
 use Rattle.analysis.proofs.sharing.joined_by.Goals.{in-Some, in_default}
-
-pub loop-link-init : goal.loop-link-init
-loop-link-init c = refl
 
 pub loop-link-preserved : goal.loop-link-preserved
 loop-link-preserved c =
@@ -23,7 +19,3 @@ loop-link-preserved c =
           w.sharing-is ∙ c.loop-link.invariant
           ∙ sym (sharing_passed cores links k c.loop-link-test.true (rw (c.core_of.ensures, c.core_of-in-loop-link.ensures) at (ends ∙ w.in_default.is)))
     ]
-
-pub returns : goal.returns
-returns c =
-    c.loop-link.invariant ∙ ap (sharing_of c.args.placement.now.cores) (take_all _ _ c.loop-link-test.false)

@@ -1,24 +1,9 @@
-use Rattle.std.proofs.Common.{◌≡◌, ◌+◌, vec_items, ap, ◌∙◌, arith}
+use Rattle.std.proofs.Common.{◌+◌, vec_items, ap, ◌∙◌}
 use Rattle.terms.specs.Cores.{number_of}
-use Rattle.arbiter.specs.declared.question.Question.{Question}
 use Rattle.tables.specs.Ranges.{execution_on, requests_on}
 use Rattle.analysis.specs.Roles.{all_ahead, all_on}
 use Rattle.analysis.proofs.Asked.{same_question}
 use Rattle.analysis.proofs.placed.Placed.demanded.Goals as goal
-
-pub add-own-requires : goal.add-own-requires
-add-own-requires g c = omega (arith, c.args.task.now.small.1, c.asked_by-asked.ensures.small.1)
-
-pub add-requires : goal.add-requires
-add-requires g c = omega (arith, c.args.task.now.small.0, c.asked_by-asked.ensures.small.0)
-
-pub add-requires-2 : goal.add-requires-2
-add-requires-2 g c =
-    let e = c.args.task.now in
-    let q : Question = record { core = e.core; t = c.args.t.t; own = c.add-own.result; others = c.asked_by-asked.result.others; sharing = e.sharing } in
-    let most = g.met.B.Arbiter.within c.args.arbiter.now q in
-    let answer : c.answer.result.0 ≡ g.B.Arbiter.bound c.args.arbiter.now q = c.answer.ensures in
-    omega (arith, e.small.0, c.asked_by-asked.ensures.small.0, c.add.ensures)
 
 pub returns : goal.returns
 returns g c =

@@ -1,15 +1,11 @@
-use Rattle.std.proofs.Common.{◌≡◌, ℕ, max, length, get_or, Some, sym, ap, ◌∙◌, subst, inl, arith, rules}
+use Rattle.std.proofs.Common.{◌≡◌, max, get_or, Some, sym, ap, ◌∙◌, rules}
 use Rattle.terms.specs.Units.{Picos}
 use Rattle.tables.specs.Ranges.{no_task}
 use Rattle.analysis.specs.Demand.{State, state_of_placed, task}
 use Rattle.analysis.specs.Times.{TimeIs}
-use Rattle.analysis.specs.Windows.{Largest}
-use Rattle.analysis.proofs.Wide.{largest_none, largest_passed, largest_more}
+use Rattle.analysis.proofs.Wide.{largest_passed, largest_more}
 use Rattle.analysis.proofs.placed.Placed.window.Goals as goal
 use Rattle.analysis.proofs.placed.Placed.window.Goals.{then-task-partition+in-Some, else-task-partition}
-
-pub loop-i-init : goal.loop-i-init
-loop-i-init g c = largest_none (g.B.Arbiter.bound c.args.arbiter.now) (state_of_placed c.args.self.now) c.args.partition
 
 pub loop-i-preserved : goal.loop-i-preserved
 loop-i-preserved g c =
@@ -26,10 +22,3 @@ loop-i-preserved g c =
       | else-task-partition w ↦
           largest_passed bound s p i v c.if-task-partition.largest c.loop-i.invariant w.largest-is (λ e. w.if-task-partition.false (sym here ∙ e))
     ]
-
-pub returns : goal.returns
-returns g c =
-    let bound = g.B.Arbiter.bound c.args.arbiter.now in
-    let s : State = state_of_placed c.args.self.now in
-    let all : c.loop-i.i ≡ length s.tasks = omega (arith, ap length c.tasks-task-items.ensures.is) in
-    inl (subst (λ (n : ℕ). Largest bound s c.args.partition n c.loop-i.largest) all c.loop-i.invariant)

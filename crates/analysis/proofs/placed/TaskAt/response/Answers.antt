@@ -1,7 +1,7 @@
-use Rattle.std.proofs.Common.{ℕ, ap, ◌∙◌, arith}
+use Rattle.std.proofs.Common.{ℕ, ap, ◌∙◌}
 use Rattle.analysis.specs.Demand.{State, state_of_placed}
 use Rattle.analysis.specs.Examined.{demand_of}
-use Rattle.analysis.proofs.Steps.{reached_start, reached_next, passed}
+use Rattle.analysis.proofs.Steps.{reached_start, reached_next}
 use Rattle.analysis.proofs.placed.TaskAt.response.Goals as goal
 
 pub loop-t-init : goal.loop-t-init
@@ -17,8 +17,3 @@ loop-t-preserved g c =
     let e = c.in_ok-task.task in
     let next = c.get-next.ensures ∙ c.demanded.ensures ∙ ap (λ (t : ℕ). demand_of s.tasks e bound t) c.new.ensures in
     reached_next bound s c.args.self.now.i e c.in_ok-task.ensures c.loop-t.t c.get-next.result c.loop-t.invariant.0 next (g.met.B.Arbiter.rises a)
-
-pub returns : goal.returns
-returns g c =
-    let s : State = state_of_placed c.args.self.now.placed in
-    passed (g.B.Arbiter.bound c.args.arbiter.now) s c.args.self.now.i c.in_ok-task.task c.in_ok-task.ensures c.loop-t.t c.loop-t.invariant.0 (omega arith)

@@ -1,4 +1,4 @@
-use Rattle.std.proofs.Common.{◌≡◌, ◌<◌, Bool, ◌&&◌, eqb, ltb, List, length, get_or, set, Option, refl, ap, ◌∙◌, arith, length-set, get_or-set_other, get_or-set_same, below_more}
+use Rattle.std.proofs.Common.{◌≡◌, ◌<◌, Bool, ◌&&◌, eqb, ltb, List, length, get_or, set, Option, ap, ◌∙◌, arith, length-set, get_or-set_other, get_or-set_same, below_more}
 use Rattle.terms.specs.declared.cores.Core.{Core}
 use Rattle.tables.specs.Ranges.{no_task}
 use Rattle.tables.specs.declared.model.Task.{Task}
@@ -7,9 +7,6 @@ use Rattle.analysis.specs.Placed.{core_at}
 use Rattle.analysis.specs.Roles.{part, role}
 use Rattle.analysis.specs.declared.role.Role.TheVariants.{Aside}
 use Rattle.analysis.proofs.placed.TaskAt.roles.Goals as goal
-
-pub loop-k-init : goal.loop-k-init
-loop-k-init c = (λ k h. absurd (omega arith), refl)
 
 pub loop-k-preserved : goal.loop-k-preserved
 loop-k-preserved c =
@@ -29,6 +26,3 @@ loop-k-preserved c =
           (get_or-set_same of k v Aside within ∙ is),
       length-set of k v ∙ inv.1,
     )
-
-pub returns : goal.returns
-returns c k h = c.loop-k.invariant.0 k (omega (arith, ap length c.tasks-tasks.ensures.is))
