@@ -48,11 +48,6 @@ module _ (file entries : List ℕ) (s z : State) (pile : Lesser RequestDriven Jo
     call = call;
   }
 
--- what was written lies in the buffer
-pub written_within : (text old : List ℕ) (r : Result ℕ Refusal) (new : List ℕ) → Written text old r new → IfOk r (λ n. n ≤ length old)
-written_within text old (Ok n) new w = omega (arith, w.0, w.1.long)
-written_within text old (Err e) new w = tt
-
 module _ (file entries old : List ℕ) (r : Result ℕ Refusal) (new : List ℕ) where
   pub checked_refused : (t : ℕ × ℕ) → decode file ≡ Err t → Written (refusal_text t) old r new → Checked file entries old r new
   unfolding Checked
