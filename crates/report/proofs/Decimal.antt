@@ -11,3 +11,7 @@ length_step n h fits = ap length (decimal_step n h fits) ∙ length_push (decima
 
 pub length_most : (n : ℕ) → n < 2 ^ 64 → length (decimal n) ≤ 20
 length_most n fits = length-decimal-le 20 n (omega arith) (omega arith) fits
+
+-- the digits before the last leave room for it
+pub length_rest : (n : ℕ) → 10 ≤ n → n < 2 ^ 64 → length (decimal (n / 10)) ≤ 19
+length_rest n h fits = omega (arith, length_step n h fits, length_most n fits)

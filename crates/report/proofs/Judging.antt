@@ -1,5 +1,5 @@
 -- The listing of a plan and the text of check, from what the calls on a plan ensure. Assumes nothing.
-use Rattle.std.proofs.Common.{◌≡◌, ℕ, ◌<◌, ◌≤◌, List, length, get_or, IfOk, Some, None, Ok, Err, Option, Result, sym, ap, ◌∙◌, subst, arith}
+use Rattle.std.proofs.Common.{◌≡◌, ℕ, ◌<◌, List, length, get_or, Some, None, Ok, Err, Option, Result, sym, ap, ◌∙◌, subst, arith}
 use Rattle.std.proofs.lemmas.List.{get_or-take, length-take-le}
 use Rattle.terms.specs.Units.{Picos}
 use Rattle.terms.specs.declared.refusal.Refusal.{Refusal}
@@ -47,11 +47,6 @@ module _ (file entries : List ℕ) (s z : State) (pile : Lesser RequestDriven Jo
     ours = subst (λ (m : ℕ). OurPile m pile) cores (made_of (λ a. OurPile n a) o pile made);
     call = call;
   }
-
--- what was written lies in the buffer
-pub written_within : (text old : List ℕ) (r : Result ℕ Refusal) (new : List ℕ) → Written text old r new → IfOk r (λ n. n ≤ length old)
-written_within text old (Ok n) new w = omega (arith, w.0, w.1.long)
-written_within text old (Err e) new w = tt
 
 module _ (file entries old : List ℕ) (r : Result ℕ Refusal) (new : List ℕ) where
   pub checked_refused : (t : ℕ × ℕ) → decode file ≡ Err t → Written (refusal_text t) old r new → Checked file entries old r new

@@ -10,12 +10,14 @@ impl Text for u64 {
 
     ghost most = { 20 };
 
+    #[tactic(auto, using(crate::proofs::Decimal::length_digit, crate::proofs::Decimal::length_step, crate::proofs::Decimal::length_rest))]
     fn length(&self) -> usize {
         let n = *self;
         if n < 10 { 1 } else { (n / 10).length() + 1 }
     }
 
     /// The digits of the quotient by ten first, then the last digit.
+    #[tactic(auto, using(crate::proofs::Decimal::length_digit, crate::proofs::Decimal::length_step, crate::proofs::Puts::put_digit, crate::proofs::Puts::put_step))]
     fn put(&self, out: &mut [u8]) -> usize {
         let n = *self;
         if n < 10 {

@@ -1,4 +1,4 @@
-use Rattle.std.proofs.Common.{Ok, Err, Result, sym, ap, ◌∙◌, subst, inr}
+use Rattle.std.proofs.Common.{Err, Result, sym, ap, ◌∙◌, subst, inr}
 use Rattle.std.proofs.lemmas.Result.{err_from_is_err_and}
 use Rattle.terms.specs.declared.refusal.Refusal.{Refusal}
 use Rattle.plan.specs.Born.{state_of}
@@ -14,8 +14,3 @@ returns-in_err-adopt c =
     let j = judged c.args.file.now c.args.allocation.now (state_of c.in_ok-plan.plan) (state_of c.adopt.new.self) c.in_ok-pile.pile c.cores.result _ (Err c.in_err-adopt.field-0.0)
     c.in_ok-plan.ensures c.cores.ensures.is c.in_ok-pile.ensures c.in_err-adopt.ensures in
     subst (λ (r : Result Adopted Refusal). Judgement c.args.file.now c.args.allocation.now r) (sym is) (inr (c.in_ok-pile.pile, state_of c.adopt.new.self, j))
-
-pub returns : goal.returns
-returns c =
-    judged c.args.file.now c.args.allocation.now (state_of c.in_ok-plan.plan) (state_of c.adopt.new.self) c.in_ok-pile.pile c.cores.result _ (Ok tt)
-    c.in_ok-plan.ensures c.cores.ensures.is c.in_ok-pile.ensures c.in_ok-adopt.ensures
