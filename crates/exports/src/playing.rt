@@ -2,7 +2,7 @@
 use super::answers::Answers;
 use super::piles::{Kind, Pile};
 use super::script::Script;
-use super::steps::{Asked, MOST_BYTES, MOST_TIMES, Step};
+use super::steps::{Asked, Length, MOST_BYTES, MOST_TIMES, Step};
 use arbiter::arbiter::Arbiter;
 use arbiter::lesser::Lesser;
 use plan::plan::Plan;
@@ -92,6 +92,7 @@ impl Rooms {
 }
 
 /// A plan under an arbiter, and the tables that a trial works on.
+// the answers stay beside it: of a struct that holds a lent buffer the check covers no lent field
 #[derive(Drop)]
 struct Player<'a, B> {
     plan: Plan,
@@ -124,19 +125,19 @@ impl<'a, B: Arbiter> Player<'a, B> {
     }
 
     /// Puts a question with a buffer of this length, and adds the answer and the whole buffer after it.
-    fn fill(&mut self, asked: Asked, length: usize, answers: &mut Answers) {
+    fn fill(&mut self, asked: Asked, length: Length<MOST_TIMES>, answers: &mut Answers) {
         // no memory is asked for once there is a plan
         let mut buffer = [Picos::new(u64::from(MARK)); MOST_TIMES];
-        let out = &mut buffer[..length.min(MOST_TIMES)];
+        let out = &mut buffer[..length.get()];
         answers.verdict(self.put(asked, out));
         answers.numbers(out.iter().map(|time| time.get()));
     }
 
     /// The listing into a buffer of this length, and the whole buffer after that.
-    fn list(&self, length: usize, answers: &mut Answers) {
+    fn list(&self, length: Length<MOST_BYTES>, answers: &mut Answers) {
         // as above
         let mut buffer = [MARK; MOST_BYTES];
-        let out = &mut buffer[..length.min(MOST_BYTES)];
+        let out = &mut buffer[..length.get()];
         answers.result(listing(&self.plan, out, self.arbiter));
         answers.numbers(out.iter().map(|byte| u64::from(*byte)));
     }

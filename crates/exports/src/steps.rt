@@ -1,4 +1,6 @@
 //! The steps of a script: calls on a plan, and questions.
+ghost use Rattle.std.specs.Prelude.{◌≡◌, ◌≤◌};
+
 use super::script::{NoCode, Script};
 use arbiter::question::{Question, Sharing};
 use plan::change::Change;
@@ -11,6 +13,38 @@ pub(crate) const MOST_TIMES: usize = 80;
 
 /// A length that no listing is longer than.
 pub(crate) const MOST_BYTES: usize = 3_700;
+
+/// Why a length is refused: no buffer is so long.
+#[derive(Clone, Copy, Debug, PartialEq, Eq)]
+pub(crate) struct TooLong;
+
+/// The length of a buffer, at most so many.
+#[derive(Clone, Copy, Debug, PartialEq, Eq)]
+pub(crate) struct Length<const MOST: usize> {
+    n: usize,
+    ghost within: { n ≤ MOST },
+}
+
+impl<const MOST: usize> Length<MOST> {
+    /// How many.
+    pub(crate) fn get(&self) -> usize
+        ensures { (result ≡ self.now.n) × (result ≤ MOST) }
+    {
+        self.n
+    }
+}
+
+impl<const MOST: usize> TryFrom<u64> for Length<MOST> {
+    type Error = TooLong;
+
+    fn try_from(n: u64) -> Result<Length<MOST>, TooLong> {
+        let n = n as usize;
+        if n > MOST {
+            return Err(TooLong);
+        }
+        Ok(Length { n })
+    }
+}
 
 /// What stands first in a step, and says what follows.
 #[derive(Clone, Copy, Debug, PartialEq, Eq)]
@@ -57,10 +91,17 @@ pub(crate) enum Asked {
 #[derive(Drop)]
 pub(crate) enum Step<'a> {
     // lent entries: a change owns them, and a script asks for no memory
-    Adopt { entries: &'a [u8] },
+    Adopt {
+        entries: &'a [u8],
+    },
     Change(Change),
-    Fill { asked: Asked, length: usize },
-    List { length: usize },
+    Fill {
+        asked: Asked,
+        length: Length<MOST_TIMES>,
+    },
+    List {
+        length: Length<MOST_BYTES>,
+    },
     Ask(Question),
 }
 
@@ -142,14 +183,14 @@ impl<'a> Script<'a> {
 
     /// A question for times: the length of the buffer.
     fn fill(&mut self, asked: Asked) -> Option<Step<'a>> {
-        let length = usize::from(self.byte()?);
-        (length <= MOST_TIMES).then_some(Step::Fill { asked, length })
+        let length = Length::try_from(u64::from(self.byte()?)).ok()?;
+        Some(Step::Fill { asked, length })
     }
 
     /// The listing: the length of the buffer.
     fn list(&mut self) -> Option<Step<'a>> {
-        let length = self.number()? as usize;
-        (length <= MOST_BYTES).then_some(Step::List { length })
+        let length = Length::try_from(self.number()?).ok()?;
+        Some(Step::List { length })
     }
 
     /// A question to the arbiter: the core, the sharing, the time, the own count and the four others.
