@@ -6,7 +6,7 @@ use terms::refusal::Refusal;
 
 /// An answer as two numbers: 0 and what was asked for, or the number of a refusal and what it tells.
 #[repr(C)]
-#[derive(Clone, Copy)]
+#[derive(Clone, Copy, Debug, PartialEq, Eq)]
 pub struct Answer {
     pub number: usize,
     pub tells: usize,
@@ -22,11 +22,13 @@ impl Answer {
             tells: 0,
         }
     }
+}
 
-    /// The two numbers of a result.
-    pub fn of(res: Result<usize, Refusal>) -> Answer
-        ensures { (result.number, result.tells) ≡ in_numbers res }
-    {
+impl From<Result<usize, Refusal>> for Answer {
+    // the two numbers of the result
+    ghost from_gives = { λ res answer. (answer.number, answer.tells) ≡ in_numbers res };
+
+    fn from(res: Result<usize, Refusal>) -> Answer {
         match res {
             Ok(tells) => Answer { number: 0, tells },
             Err(refusal) => Answer {

@@ -1,11 +1,12 @@
 //! Answers as numbers, one after the other.
+ghost use Rattle.std.specs.Iterator.{IsFinite};
 ghost use Rattle.std.specs.Prelude.{◌≡◌, ◌+◌, ◌<◌, ◌≤◌, length, slice_set};
 
 use super::answer::Answer;
-use terms::numbers::{Picos, Requests};
 use terms::refusal::Refusal;
 
 /// A buffer that numbers are added to, from its front on; past its end they are lost.
+// the buffer is lent by the C side, and does not grow
 #[derive(Drop)]
 pub(crate) struct Answers<'a> {
     out: &'a mut [u64],
@@ -45,37 +46,23 @@ impl<'a> Answers<'a> {
 
     /// Adds the two numbers of a result.
     pub(crate) fn result(&mut self, res: Result<usize, Refusal>) {
-        let answer = Answer::of(res);
+        let answer = Answer::from(res);
         self.count(answer.number);
         self.count(answer.tells);
     }
 
     /// Adds 0 and 0, or the number of a refusal and what it tells.
     pub(crate) fn verdict(&mut self, verdict: Result<(), Refusal>) {
-        match verdict {
-            Ok(()) => self.result(Ok(0)),
-            Err(refusal) => self.result(Err(refusal)),
-        }
+        self.result(verdict.map(|()| 0));
     }
 
-    /// Adds each of some times.
-    pub(crate) fn times(&mut self, times: &[Picos]) {
-        for time in times {
-            self.number(time.get());
-        }
-    }
-
-    /// Adds each of some counts of requests.
-    pub(crate) fn requests(&mut self, counts: &[Requests]) {
-        for count in counts {
-            self.number(count.get());
-        }
-    }
-
-    /// Adds each of some bytes.
-    pub(crate) fn bytes(&mut self, bytes: &[u8]) {
-        for byte in bytes {
-            self.number(u64::from(*byte));
+    /// Adds each of some numbers.
+    pub(crate) fn numbers<I: Iterator<Item = u64>>(&mut self, numbers: I)
+        requires may { I.can_next numbers }
+        requires ends { IsFinite (I.remaining numbers) }
+    {
+        for n in numbers {
+            self.number(n);
         }
     }
 }

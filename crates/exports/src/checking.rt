@@ -11,7 +11,7 @@ use tables::room::Room;
 fn check_in(room: Room, file: &[u8], allocation: &[u8], out: &mut [u8]) -> Answer
     ensures { Checks file.now allocation.now out.old result out.new }
 {
-    Answer::of(check_text(room, file, allocation, out))
+    Answer::from(check_text(room, file, allocation, out))
 }
 
 /// Writes what checker prints of a table file and an allocation into the front of a buffer, and answers its length; or 17

@@ -1,15 +1,46 @@
 //! Piles of arbiters by their settings.
-use super::script::Script;
+use super::script::{NoCode, Script};
 use arbiter::job_driven::JobDriven;
 use arbiter::lesser::Lesser;
 use arbiter::refresh::Refresh;
 use arbiter::request_driven::RequestDriven;
-use arbiter::station::Pile;
+use arbiter::station;
 use terms::numbers::{DelayPerRequest, Picos};
 use terms::refusal::Refusal;
 
+/// What a pile is made of.
+#[derive(Clone, Copy, Debug, PartialEq, Eq)]
+pub(crate) enum Kind {
+    RequestDriven,
+    JobDriven,
+    Lesser,
+    RefreshOverRequestDriven,
+    RefreshOverJobDriven,
+    RefreshOverLesser,
+    LesserOverRefreshes,
+    RefreshOverRefresh,
+}
+
+impl TryFrom<u8> for Kind {
+    type Error = NoCode;
+
+    fn try_from(byte: u8) -> Result<Kind, NoCode> {
+        match byte {
+            0 => Ok(Kind::RequestDriven),
+            1 => Ok(Kind::JobDriven),
+            2 => Ok(Kind::Lesser),
+            3 => Ok(Kind::RefreshOverRequestDriven),
+            4 => Ok(Kind::RefreshOverJobDriven),
+            5 => Ok(Kind::RefreshOverLesser),
+            6 => Ok(Kind::LesserOverRefreshes),
+            7 => Ok(Kind::RefreshOverRefresh),
+            _ => Err(NoCode),
+        }
+    }
+}
+
 /// The interval and the length of a refresh.
-#[derive(Clone, Copy)]
+#[derive(Clone, Copy, Debug, PartialEq, Eq)]
 pub(crate) struct Refreshes {
     interval: Picos,
     span: Picos,
@@ -22,9 +53,10 @@ impl Refreshes {
     }
 }
 
-/// All settings that a pile can have: those of the arbiters at the bottom, and two refreshes.
-#[derive(Clone, Copy)]
-pub(crate) struct Settings {
+/// A pile with all settings that one can have: those of the arbiters at the bottom, and two refreshes.
+#[derive(Clone, Copy, Debug, PartialEq, Eq)]
+pub(crate) struct Pile {
+    pub(crate) kind: Kind,
     cores: usize,
     l: DelayPerRequest,
     conflict: DelayPerRequest,
@@ -33,32 +65,24 @@ pub(crate) struct Settings {
     pub(crate) second: Refreshes,
 }
 
-impl Settings {
-    /// The settings that stand next in a script, eight numbers.
-    pub(crate) fn read(script: &mut Script) -> Option<Settings> {
-        let [
+impl Pile {
+    /// The pile that stands next in a script: the kind in a byte, the settings in eight numbers.
+    pub(crate) fn read(script: &mut Script) -> Option<Pile> {
+        let kind = Kind::try_from(script.byte()?).ok()?;
+        let cores = script.number()? as usize;
+        let [l, conflict, reorder] = script.numbers::<3>()?.map(DelayPerRequest::new);
+        let [interval, span] = script.numbers::<2>()?.map(Picos::new);
+        let first = Refreshes { interval, span };
+        let [interval, span] = script.numbers::<2>()?.map(Picos::new);
+        let second = Refreshes { interval, span };
+        Some(Pile {
+            kind,
             cores,
             l,
             conflict,
             reorder,
-            interval,
-            span,
-            upper_interval,
-            upper_span,
-        ] = script.numbers::<8>()?;
-        Some(Settings {
-            cores: cores as usize,
-            l: DelayPerRequest::new(l),
-            conflict: DelayPerRequest::new(conflict),
-            reorder: DelayPerRequest::new(reorder),
-            first: Refreshes {
-                interval: Picos::new(interval),
-                span: Picos::new(span),
-            },
-            second: Refreshes {
-                interval: Picos::new(upper_interval),
-                span: Picos::new(upper_span),
-            },
+            first,
+            second,
         })
     }
 
@@ -73,7 +97,7 @@ impl Settings {
     }
 
     /// The lesser of both.
-    pub(crate) fn lesser(&self) -> Result<Pile, Refusal> {
+    pub(crate) fn lesser(&self) -> Result<station::Pile, Refusal> {
         Ok(Lesser::new(self.requests()?, self.jobs()?))
     }
 }

@@ -1,13 +1,20 @@
 //! A script played on one plan under one arbiter.
 use super::answers::Answers;
+use super::piles::{Kind, Pile};
 use super::script::Script;
-use super::steps::{Question, adopt, ask, fill, list, place, retime, trial, withdraw};
+use super::steps::{Asked, Length, MOST_BYTES, MOST_TIMES, Step};
 use arbiter::arbiter::Arbiter;
+use arbiter::lesser::Lesser;
 use plan::plan::Plan;
+use report::checked::listing;
 use std::alloc::{AllocError, Global};
 use tables::held::spare::Spare;
 use tables::room::Room;
+use terms::numbers::Picos;
 use terms::refusal::Refusal;
+
+/// What every buffer is filled with before a question.
+const MARK: u8 = 170;
 
 /// Room for the tables of a plan, and for the copy of them that a trial works on.
 #[derive(Drop)]
@@ -23,47 +30,115 @@ impl Rooms {
         let spare = Spare::new(Room::reserve(heap)?);
         Ok(Rooms { plan, spare })
     }
-}
 
-/// Makes one call of a script, and adds what it answers; none where the script says no further call.
-fn step<B: Arbiter>(
-    plan: &mut Plan,
-    spare: &mut Spare,
-    script: &mut Script,
-    answers: &mut Answers,
-    arbiter: &B,
-) -> Option<()> {
-    match script.byte()? {
-        1 => answers.verdict(adopt(plan, script, arbiter)?),
-        2 => answers.verdict(place(plan, script, arbiter)?),
-        3 => answers.verdict(withdraw(plan, script, arbiter)?),
-        4 => answers.verdict(retime(plan, script, arbiter)?),
-        5 => fill(plan, spare, Question::Times, script, answers, arbiter)?,
-        6 => fill(plan, spare, Question::Windows, script, answers, arbiter)?,
-        7 => list(plan, script, answers, arbiter)?,
-        8 => fill(plan, spare, trial(script)?, script, answers, arbiter)?,
-        9 => ask(script, answers, arbiter)?,
-        _ => return None,
-    }
-    Some(())
-}
-
-/// Plays a script from the birth of a plan, and adds what each call answers; refuses a file with a fault.
-pub(crate) fn play<B: Arbiter>(
-    rooms: Rooms,
-    file: &[u8],
-    script: &mut Script,
-    answers: &mut Answers,
-    arbiter: &B,
-) -> Result<(), Refusal> {
-    let mut plan = Plan::from_file(rooms.plan, file)?;
-    let mut spare = rooms.spare;
-    answers.verdict(Ok(()));
-    // each call takes a byte or more
-    for _ in 0..script.len() {
-        if step(&mut plan, &mut spare, script, answers, arbiter).is_none() {
-            break;
+    /// Plays a script from the birth of the plan of a file, under a pile, and adds what each call answers; refuses a
+    /// setting out of its range, and a file with a fault.
+    pub(crate) fn play_under(
+        self,
+        file: &[u8],
+        pile: &Pile,
+        script: &mut Script,
+        answers: &mut Answers,
+    ) -> Result<(), Refusal> {
+        match pile.kind {
+            Kind::RequestDriven => self.play(file, &pile.requests()?, script, answers),
+            Kind::JobDriven => self.play(file, &pile.jobs()?, script, answers),
+            Kind::Lesser => self.play(file, &pile.lesser()?, script, answers),
+            Kind::RefreshOverRequestDriven => {
+                self.play(file, &pile.first.over(pile.requests()?)?, script, answers)
+            }
+            Kind::RefreshOverJobDriven => {
+                self.play(file, &pile.first.over(pile.jobs()?)?, script, answers)
+            }
+            Kind::RefreshOverLesser => {
+                self.play(file, &pile.first.over(pile.lesser()?)?, script, answers)
+            }
+            Kind::LesserOverRefreshes => {
+                let first = pile.first.over(pile.requests()?)?;
+                let second = pile.second.over(pile.jobs()?)?;
+                self.play(file, &Lesser::new(first, second), script, answers)
+            }
+            Kind::RefreshOverRefresh => {
+                let below = pile.first.over(pile.lesser()?)?;
+                self.play(file, &pile.second.over(below)?, script, answers)
+            }
         }
     }
-    Ok(())
+
+    /// The same under an arbiter.
+    fn play<B: Arbiter>(
+        self,
+        file: &[u8],
+        arbiter: &B,
+        script: &mut Script,
+        answers: &mut Answers,
+    ) -> Result<(), Refusal> {
+        let plan = Plan::from_file(self.plan, file)?;
+        answers.verdict(Ok(()));
+        let mut player = Player {
+            plan,
+            spare: self.spare,
+            arbiter,
+        };
+        // each call takes a byte or more
+        for _ in 0..script.len() {
+            let Some(step) = script.step() else {
+                break;
+            };
+            player.make(step, answers);
+        }
+        Ok(())
+    }
+}
+
+/// A plan under an arbiter, and the tables that a trial works on.
+// the answers stay beside it: of a struct that holds a lent buffer the check covers no lent field
+#[derive(Drop)]
+struct Player<'a, B> {
+    plan: Plan,
+    spare: Spare,
+    arbiter: &'a B,
+}
+
+impl<'a, B: Arbiter> Player<'a, B> {
+    /// Makes a step, and adds what it answers.
+    fn make(&mut self, step: Step, answers: &mut Answers) {
+        match step {
+            Step::Adopt { entries } => answers.verdict(self.plan.adopt(entries, self.arbiter)),
+            Step::Change(change) => answers.verdict(self.plan.change(&change, self.arbiter)),
+            Step::Fill { asked, length } => self.fill(asked, length, answers),
+            Step::List { length } => self.list(length, answers),
+            Step::Ask(question) => answers.number(self.arbiter.answer(&question).get()),
+        }
+    }
+
+    /// Puts a question to the plan.
+    fn put(&mut self, asked: Asked, out: &mut [Picos]) -> Result<(), Refusal> {
+        match asked {
+            Asked::Times => self.plan.times(out, self.arbiter),
+            Asked::Windows => self.plan.windows(out, self.arbiter),
+            Asked::Trial { partition, core } => {
+                self.plan
+                    .trial(&mut self.spare, partition, core, out, self.arbiter)
+            }
+        }
+    }
+
+    /// Puts a question with a buffer of this length, and adds the answer and the whole buffer after it.
+    fn fill(&mut self, asked: Asked, length: Length<MOST_TIMES>, answers: &mut Answers) {
+        // no memory is asked for once there is a plan
+        let mut buffer = [Picos::new(u64::from(MARK)); MOST_TIMES];
+        let out = &mut buffer[..length.get()];
+        answers.verdict(self.put(asked, out));
+        answers.numbers(out.iter().map(|time| time.get()));
+    }
+
+    /// The listing into a buffer of this length, and the whole buffer after that.
+    fn list(&self, length: Length<MOST_BYTES>, answers: &mut Answers) {
+        // as above
+        let mut buffer = [MARK; MOST_BYTES];
+        let out = &mut buffer[..length.get()];
+        answers.result(listing(&self.plan, out, self.arbiter));
+        answers.numbers(out.iter().map(|byte| u64::from(*byte)));
+    }
 }

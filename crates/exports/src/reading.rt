@@ -12,10 +12,7 @@ use tables::room::Room;
 fn read_in(room: Room, file: &[u8]) -> Answer
     ensures { Reads file.now result }
 {
-    match Tables::read(room, file) {
-        Ok(_) => Answer::of(Ok(0)),
-        Err(refusal) => Answer::of(Err(refusal)),
-    }
+    Answer::from(Tables::read(room, file).map(|_| 0))
 }
 
 /// Reads a table file. Answers 0 where it is accepted, else the number of its first fault and what that tells; or 255
@@ -34,16 +31,14 @@ pub extern "C" fn station_read(heap: Global, file: &[u8]) -> Answer
 fn add_tables(tables: &Tables, answers: &mut Answers) {
     answers.count(tables.cores());
     answers.count(tables.partitions().len());
-    for partition in tables.partitions() {
-        answers.number(partition.period.get());
-    }
+    answers.numbers(tables.partitions().iter().map(|row| row.period.get()));
     answers.count(tables.tasks().len());
     for task in tables.tasks() {
         answers.count(task.partition);
         answers.number(task.period.get());
         answers.number(task.deadline.get());
-        answers.times(&task.execution);
-        answers.requests(&task.requests);
+        answers.numbers(task.execution.iter().map(|time| time.get()));
+        answers.numbers(task.requests.iter().map(|count| count.get()));
     }
     answers.count(tables.links().len());
     for link in tables.links() {
@@ -63,8 +58,8 @@ pub extern "C" fn station_tables(heap: Global, file: &[u8], out: &mut [u64]) -> 
         Ok(tables) => {
             let mut answers = Answers::new(out);
             add_tables(&tables, &mut answers);
-            Answer::of(Ok(answers.len()))
+            Answer::from(Ok(answers.len()))
         }
-        Err(refusal) => Answer::of(Err(refusal)),
+        Err(refusal) => Answer::from(Err(refusal)),
     }
 }

@@ -3,6 +3,10 @@ ghost use Rattle.std.specs.Prelude.{◌≡◌, length};
 ghost use Rattle.std.specs.Option.{option_map};
 ghost use Rattle.exports.specs.Scripts.{Takes, Gives, Says};
 
+/// Why a byte of a script is refused: it stands for nothing.
+#[derive(Clone, Copy, Debug, PartialEq, Eq)]
+pub(crate) struct NoCode;
+
 /// A script that is read from its front on.
 #[derive(Drop)]
 pub(crate) struct Script<'a> {

@@ -1,150 +1,108 @@
 //! The steps of a script: calls on a plan, and questions.
-use super::answers::Answers;
-use super::script::Script;
-use arbiter::arbiter::Arbiter;
-use arbiter::question::{Question as Asked, Sharing};
-use plan::plan::Plan;
-use report::checked::listing;
-use tables::held::spare::Spare;
+ghost use Rattle.std.specs.Prelude.{◌≡◌, ◌≤◌};
+
+use super::script::{NoCode, Script};
+use arbiter::question::{Question, Sharing};
+use plan::change::Change;
 use tables::numbers::Numbers;
 use terms::cores::Core;
 use terms::numbers::{Picos, Requests};
-use terms::refusal::Refusal;
 
 /// A number of times that no plan needs more than.
-const MOST_TIMES: usize = 80;
+pub(crate) const MOST_TIMES: usize = 80;
 
 /// A length that no listing is longer than.
-const MOST_BYTES: usize = 3_700;
+pub(crate) const MOST_BYTES: usize = 3_700;
 
-/// What every buffer is filled with before a question.
-const MARK: u64 = 170;
+/// Why a length is refused: no buffer is so long.
+#[derive(Clone, Copy, Debug, PartialEq, Eq)]
+pub(crate) struct TooLong;
 
-/// An allocation: how many entries, and the entries.
-pub(crate) fn adopt<B: Arbiter>(
-    plan: &mut Plan,
-    script: &mut Script,
-    arbiter: &B,
-) -> Option<Result<(), Refusal>> {
-    let length = script.byte()? as usize;
-    let entries = script.take(length)?;
-    Some(plan.adopt(entries, arbiter))
+/// The length of a buffer, at most so many.
+#[derive(Clone, Copy, Debug, PartialEq, Eq)]
+pub(crate) struct Length<const MOST: usize> {
+    n: usize,
+    ghost within: { n ≤ MOST },
 }
 
-/// A placement: the partition, and the core.
-pub(crate) fn place<B: Arbiter>(
-    plan: &mut Plan,
-    script: &mut Script,
-    arbiter: &B,
-) -> Option<Result<(), Refusal>> {
-    let [partition, core] = script.numbers::<2>()?;
-    Some(plan.place(partition as usize, core as usize, arbiter))
+impl<const MOST: usize> Length<MOST> {
+    /// How many.
+    pub(crate) fn get(&self) -> usize
+        ensures { (result ≡ self.now.n) × (result ≤ MOST) }
+    {
+        self.n
+    }
 }
 
-/// A withdrawal: the partition.
-pub(crate) fn withdraw<B: Arbiter>(
-    plan: &mut Plan,
-    script: &mut Script,
-    arbiter: &B,
-) -> Option<Result<(), Refusal>> {
-    let partition = script.number()?;
-    Some(plan.withdraw(partition as usize, arbiter))
+impl<const MOST: usize> TryFrom<u64> for Length<MOST> {
+    type Error = TooLong;
+
+    fn try_from(n: u64) -> Result<Length<MOST>, TooLong> {
+        let n = n as usize;
+        if n > MOST {
+            return Err(TooLong);
+        }
+        Ok(Length { n })
+    }
 }
 
-/// Other numbers for a task: the task, a period, a deadline, four execution times and four counts of requests.
-pub(crate) fn retime<B: Arbiter>(
-    plan: &mut Plan,
-    script: &mut Script,
-    arbiter: &B,
-) -> Option<Result<(), Refusal>> {
-    let [task, period, deadline, c0, c1, c2, c3, h0, h1, h2, h3] = script.numbers::<11>()?;
-    let numbers = Numbers {
-        period: Picos::new(period),
-        deadline: Picos::new(deadline),
-        execution: [
-            Picos::new(c0),
-            Picos::new(c1),
-            Picos::new(c2),
-            Picos::new(c3),
-        ],
-        requests: [
-            Requests::new(h0),
-            Requests::new(h1),
-            Requests::new(h2),
-            Requests::new(h3),
-        ],
-    };
-    Some(plan.retime(task as usize, numbers, arbiter))
+/// What stands first in a step, and says what follows.
+#[derive(Clone, Copy, Debug, PartialEq, Eq)]
+enum Head {
+    Adopt,
+    Place,
+    Withdraw,
+    Retime,
+    Times,
+    Windows,
+    List,
+    Trial,
+    Ask,
+}
+
+impl TryFrom<u8> for Head {
+    type Error = NoCode;
+
+    fn try_from(byte: u8) -> Result<Head, NoCode> {
+        match byte {
+            1 => Ok(Head::Adopt),
+            2 => Ok(Head::Place),
+            3 => Ok(Head::Withdraw),
+            4 => Ok(Head::Retime),
+            5 => Ok(Head::Times),
+            6 => Ok(Head::Windows),
+            7 => Ok(Head::List),
+            8 => Ok(Head::Trial),
+            9 => Ok(Head::Ask),
+            _ => Err(NoCode),
+        }
+    }
 }
 
 /// A question whose answer is a buffer of times.
-#[derive(Clone, Copy)]
-pub(crate) enum Question {
+#[derive(Clone, Copy, Debug, PartialEq, Eq)]
+pub(crate) enum Asked {
     Times,
     Windows,
     Trial { partition: usize, core: usize },
 }
 
-/// Puts a question to a plan.
-fn put<B: Arbiter>(
-    plan: &mut Plan,
-    spare: &mut Spare,
-    question: Question,
-    out: &mut [Picos],
-    arbiter: &B,
-) -> Result<(), Refusal> {
-    match question {
-        Question::Times => plan.times(out, arbiter),
-        Question::Windows => plan.windows(out, arbiter),
-        Question::Trial { partition, core } => plan.trial(spare, partition, core, out, arbiter),
-    }
-}
-
-/// What a trial is of: the partition, and the core.
-pub(crate) fn trial(script: &mut Script) -> Option<Question> {
-    let [partition, core] = script.numbers::<2>()?;
-    Some(Question::Trial {
-        partition: partition as usize,
-        core: core as usize,
-    })
-}
-
-/// Puts a question with a buffer of the length that stands next, and adds the answer and the whole buffer after it.
-pub(crate) fn fill<B: Arbiter>(
-    plan: &mut Plan,
-    spare: &mut Spare,
-    question: Question,
-    script: &mut Script,
-    answers: &mut Answers,
-    arbiter: &B,
-) -> Option<()> {
-    let length = script.byte()? as usize;
-    if length > MOST_TIMES {
-        return None;
-    }
-    let mut buffer = [Picos::new(MARK); MOST_TIMES];
-    let out = &mut buffer[0..length];
-    answers.verdict(put(plan, spare, question, out, arbiter));
-    answers.times(out);
-    Some(())
-}
-
-/// The listing into a buffer of this length, and the whole buffer after that.
-pub(crate) fn list<B: Arbiter>(
-    plan: &Plan,
-    script: &mut Script,
-    answers: &mut Answers,
-    arbiter: &B,
-) -> Option<()> {
-    let length = script.number()? as usize;
-    if length > MOST_BYTES {
-        return None;
-    }
-    let mut buffer = [MARK as u8; MOST_BYTES];
-    let out = &mut buffer[0..length];
-    answers.result(listing(plan, out, arbiter));
-    answers.bytes(out);
-    Some(())
+/// A call on a plan, or a question to it or to the arbiter; lengths are those of the buffer that is lent to it.
+#[derive(Drop)]
+pub(crate) enum Step<'a> {
+    // lent entries: a change owns them, and a script asks for no memory
+    Adopt {
+        entries: &'a [u8],
+    },
+    Change(Change),
+    Fill {
+        asked: Asked,
+        length: Length<MOST_TIMES>,
+    },
+    List {
+        length: Length<MOST_BYTES>,
+    },
+    Ask(Question),
 }
 
 /// Which cores share, by the bits of a byte, the least for 0-1, then 0-2, 0-3, 1-2, 1-3 and 2-3.
@@ -158,36 +116,94 @@ fn sharing_by(bits: u8) -> Sharing {
         (Core::One, Core::Three),
         (Core::Two, Core::Three),
     ];
-    for k in 0..6 {
+    for (k, (a, b)) in pairs.into_iter().enumerate() {
         if bits & (1 << k as u32) != 0 {
-            let (a, b) = pairs[k];
             sharing.join(a, b);
         }
     }
     sharing
 }
 
-/// A question to the arbiter: the core, the sharing, the time, the own count and the four others.
-pub(crate) fn ask<B: Arbiter>(
-    script: &mut Script,
-    answers: &mut Answers,
-    arbiter: &B,
-) -> Option<()> {
-    let core = Core::try_from(usize::from(script.byte()?)).ok()?;
-    let sharing = sharing_by(script.byte()?);
-    let [t, own, c0, c1, c2, c3] = script.numbers::<6>()?;
-    let question = Asked {
-        core,
-        t: Picos::new(t),
-        own: Requests::new(own),
-        others: [
-            Requests::new(c0),
-            Requests::new(c1),
-            Requests::new(c2),
-            Requests::new(c3),
-        ],
-        sharing,
-    };
-    answers.number(arbiter.answer(&question).get());
-    Some(())
+impl<'a> Script<'a> {
+    /// The next step.
+    pub(crate) fn step(&mut self) -> Option<Step<'a>> {
+        match Head::try_from(self.byte()?).ok()? {
+            Head::Adopt => self.adopt(),
+            Head::Place => Some(Step::Change(self.place()?)),
+            Head::Withdraw => Some(Step::Change(self.withdraw()?)),
+            Head::Retime => Some(Step::Change(self.retime()?)),
+            Head::Times => self.fill(Asked::Times),
+            Head::Windows => self.fill(Asked::Windows),
+            Head::List => self.list(),
+            Head::Trial => {
+                let asked = self.trial()?;
+                self.fill(asked)
+            }
+            Head::Ask => Some(Step::Ask(self.question()?)),
+        }
+    }
+
+    /// An allocation: how many entries, and the entries.
+    fn adopt(&mut self) -> Option<Step<'a>> {
+        let length = usize::from(self.byte()?);
+        let entries = self.take(length)?;
+        Some(Step::Adopt { entries })
+    }
+
+    /// A placement: the partition, and the core.
+    fn place(&mut self) -> Option<Change> {
+        let [partition, core] = self.numbers::<2>()?;
+        Some(Change::Place {
+            partition: partition as usize,
+            core: core as usize,
+        })
+    }
+
+    /// A withdrawal: the partition.
+    fn withdraw(&mut self) -> Option<Change> {
+        let partition = self.number()? as usize;
+        Some(Change::Withdraw { partition })
+    }
+
+    /// Other numbers for a task: the task, a period, a deadline, four execution times and four counts of requests.
+    fn retime(&mut self) -> Option<Change> {
+        let task = self.number()? as usize;
+        let numbers = Numbers::from(self.numbers::<10>()?);
+        Some(Change::Retime { task, numbers })
+    }
+
+    /// What a trial is of: the partition, and the core.
+    fn trial(&mut self) -> Option<Asked> {
+        let [partition, core] = self.numbers::<2>()?;
+        Some(Asked::Trial {
+            partition: partition as usize,
+            core: core as usize,
+        })
+    }
+
+    /// A question for times: the length of the buffer.
+    fn fill(&mut self, asked: Asked) -> Option<Step<'a>> {
+        let length = Length::try_from(u64::from(self.byte()?)).ok()?;
+        Some(Step::Fill { asked, length })
+    }
+
+    /// The listing: the length of the buffer.
+    fn list(&mut self) -> Option<Step<'a>> {
+        let length = Length::try_from(self.number()?).ok()?;
+        Some(Step::List { length })
+    }
+
+    /// A question to the arbiter: the core, the sharing, the time, the own count and the four others.
+    fn question(&mut self) -> Option<Question> {
+        let core = Core::try_from(usize::from(self.byte()?)).ok()?;
+        let sharing = sharing_by(self.byte()?);
+        let [t, own] = self.numbers::<2>()?;
+        Some(Question {
+            core,
+            t: Picos::new(t),
+            own: Requests::new(own),
+            others: self.numbers::<4>()?.map(Requests::new),
+            sharing,
+        })
+    }
 }

@@ -1,22 +1,32 @@
 -- The first piece of a text, by the place of its end. Assumes nothing.
-use Rattle.std.proofs.Common.{◌≡◌, ℕ, ◌+◌, ◌-◌, ◌<◌, ◌≤◌, Bool, false, List, length, get_or, take, drop, sym, ap, ◌∙◌, subst, arith, length-drop}
+use Rattle.std.proofs.Common.{◌≡◌, ℕ, ◌+◌, ◌-◌, ◌≤◌, ◌==◌, List, length, get_or, take, drop, Some, None, sym, ap, ◌∙◌, subst, refl, arith, position, length-drop}
+use Rattle.std.specs.List.{position_or_len}
+use Rattle.std.proofs.lemmas.Bool.{eqb-true, eqb-false}
+use Rattle.std.proofs.lemmas.Grind.{common_steps}
 use Rattle.std.proofs.lemmas.List.{length-take-le, get_or-take, take_all}
+use Rattle.std.proofs.lemmas.List.Quantifiers.{position-Some}
+use Rattle.std.proofs.lemmas.List.Sums.{fails_before_first}
 use Rattle.rehearse.specs.Cutting.{Cut, Behind}
 
--- all that is behind a place
-pub all_behind : (text : List ℕ) (i : ℕ) → take (length text - i) (drop i text) ≡ drop i text
-all_behind text i = take_all (length text - i) (drop i text) (simp length-drop (omega arith))
+-- a piece up to the first mark
+pub cut_more : (mark : ℕ) (text : List ℕ) (n : ℕ) → position (λ byte. byte == mark) text ≡ Some n → Cut mark text (take n text) (Some (take (length text - (n + 1)) (drop (n + 1) text)))
+cut_more mark text n is =
+    let at = position-Some (λ byte. byte == mark) text n 0 is in
+    let long : length (take n text) ≡ n = length-take-le n text (omega (arith, at.0)) in
+    record {
+      front = ap (λ i. take i text) (sym long);
+      unmarked = λ k h e. eqb-false (get_or text k 0) mark (at.2 k (omega (arith, long))) (sym (get_or-take n text k 0 (omega (arith, long))) ∙ e);
+      behind =
+          subst (λ (i : ℕ). Behind mark text i (Some (take (length text - (n + 1)) (drop (n + 1) text)))) (sym long)
+          (at.0, eqb-true (get_or text n 0) mark at.1, take_all (length text - (n + 1)) (drop (n + 1) text) (simp length-drop (omega arith)));
+    }
 
-module _ (mark : ℕ) (text rest : List ℕ) (m n : ℕ) (same : m ≡ n) (before : (k : ℕ) → k < n → get_or text k 0 ≡ mark → ⊥) where
-  pub cut_at : (done : Bool) → n ≤ length text → Behind mark text n rest done → Cut mark text (take m text) rest done
-  cut_at done within behind =
-      let long : length (take m text) ≡ m = length-take-le m text (omega arith) in
-      record {
-        front = ap (λ i. take i text) (sym long);
-        unmarked = λ k h is. before k (omega (arith, long)) (sym (get_or-take m text k 0 (omega (arith, long))) ∙ is);
-        behind = subst (λ (i : ℕ). Behind mark text i rest done) (sym same ∙ sym long) behind;
-      }
-
-  pub cut_more : (done : Bool) → done ≡ false → n < length text → get_or text n 0 ≡ mark → rest ≡ drop (n + 1) text → Cut mark text (take m text) rest done
-  cut_more done more lt marked is =
-      cut_at done (omega arith) (subst (λ (b : Bool). Behind mark text n rest b) (sym more) (lt, marked, is))
+-- the last piece, which has no mark
+pub cut_last : (mark : ℕ) (text : List ℕ) → position (λ byte. byte == mark) text ≡ None → Cut mark text text None
+cut_last mark text none =
+    let far : length text ≤ position_or_len (λ byte. byte == mark) text = grind (arith, common_steps) in
+    record {
+      front = sym (take_all (length text) text (omega arith));
+      unmarked = λ k h. eqb-false (get_or text k 0) mark (fails_before_first (λ byte. byte == mark) text k 0 (omega (arith, far)));
+      behind = refl;
+    }

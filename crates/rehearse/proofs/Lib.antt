@@ -1,4 +1,4 @@
 mod Cuts
 mod Days
+mod Digits
 mod Lines
-mod Reading

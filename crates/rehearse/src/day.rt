@@ -19,15 +19,12 @@ fn header_of(file: &[u8]) -> Header
     ensures is { HeaderFor file.now result }
     ensures ranged { header_in_range result ≡ true }
 {
-    match Reader::new(file).header() {
-        Ok(header) => header,
-        Err(_) => Header {
-            cores: 1,
-            partitions: 0,
-            tasks: 0,
-            links: 0,
-        },
-    }
+    Reader::new(file).header().unwrap_or(Header {
+        cores: 1,
+        partitions: 0,
+        tasks: 0,
+        links: 0,
+    })
 }
 
 /// Plays changes from the birth of a plan under the pile of our station, tells for each what became of it in a log that

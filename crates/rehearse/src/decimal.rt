@@ -8,17 +8,11 @@ use plan::adoption::UNPLACED;
 pub fn number(word: &[u8]) -> Option<u64>
     ensures { Says word.now result }
 {
-    if word.is_empty() {
+    // `parse` takes a sign too
+    if !word.iter().all(u8::is_ascii_digit) {
         return None;
     }
-    let mut n: u64 = 0;
-    for byte in word {
-        if !byte.is_ascii_digit() {
-            return None;
-        }
-        n = n.checked_mul(10)?.checked_add(u64::from(*byte - b'0'))?;
-    }
-    Some(n)
+    str::from_utf8(word).ok()?.parse().ok()
 }
 
 /// The entry of an allocation that a word says: a number of at most 255, or unplaced for a dash.
@@ -27,9 +21,6 @@ pub fn entry(word: &[u8]) -> Option<u8>
 {
     match word {
         b"-" => Some(UNPLACED),
-        _ => match number(word) {
-            Some(n) if n <= 255 => Some(n as u8),
-            _ => None,
-        },
+        _ => u8::try_from(number(word)?).ok(),
     }
 }

@@ -4,7 +4,6 @@ use super::pieces::Pieces;
 use plan::change::Change;
 use std::alloc::{AllocError, Global};
 use tables::numbers::Numbers;
-use terms::numbers::{Picos, Requests};
 
 /// The numbers that the words say, where there are exactly so many words and each says one.
 fn numbers<const N: usize>(words: &mut Pieces) -> Option<[u64; N]> {
@@ -49,27 +48,9 @@ fn withdraw(words: &mut Pieces) -> Option<Change> {
 
 /// Other numbers for a task: the task, a period, a deadline, four execution times and four counts of requests.
 fn retime(words: &mut Pieces) -> Option<Change> {
-    let [task, period, deadline, c0, c1, c2, c3, h0, h1, h2, h3] = numbers::<11>(words)?;
-    let numbers = Numbers {
-        period: Picos::new(period),
-        deadline: Picos::new(deadline),
-        execution: [
-            Picos::new(c0),
-            Picos::new(c1),
-            Picos::new(c2),
-            Picos::new(c3),
-        ],
-        requests: [
-            Requests::new(h0),
-            Requests::new(h1),
-            Requests::new(h2),
-            Requests::new(h3),
-        ],
-    };
-    Some(Change::Retime {
-        task: task as usize,
-        numbers,
-    })
+    let task = number(words.next()?)? as usize;
+    let numbers = Numbers::from(numbers::<10>(words)?);
+    Some(Change::Retime { task, numbers })
 }
 
 /// The change that a line says, if it says one.

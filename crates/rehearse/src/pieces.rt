@@ -1,39 +1,30 @@
 //! A text cut at a mark: lines, and the words of a line.
-ghost use Rattle.std.specs.Prelude.{◌≡◌, ℕ, ◌+◌, ◌<◌, ◌≤◌, false, length, if◌then◌else◌, ◌≢◌, slice_index};
+ghost use Rattle.std.specs.Prelude.{◌≡◌, ◌==◌, Some, position};
 ghost use Rattle.std.specs.Option.{option_map};
-ghost use Rattle.rehearse.specs.Cutting.{Cuts};
+ghost use Rattle.rehearse.specs.Cutting.{Cuts, most};
 ghost use Rattle.std.specs.Iterator.{at_most};
 
-/// The place of the first mark in a text, or the text's length where there is none.
-fn first_mark(text: &[u8], mark: u8) -> usize
-    ensures within { result ≤ length text.now }
-    ensures before { (k : ℕ) → k < result → slice_index text.now k ≢ mark }
-    ensures found { result < length text.now → slice_index text.now result ≡ mark }
+/// The place of the first mark in a text, if there is one.
+fn first_mark(text: &[u8], mark: u8) -> Option<usize>
+    ensures { result ≡ position (λ byte. byte == mark) text.now }
 {
-    for (i, byte) in text.iter().enumerate() {
-        if *byte == mark {
-            return i;
-        }
-    }
-    text.len()
+    text.iter().position(|byte| *byte == mark)
 }
 
 /// The pieces of a text between marks: one more than it has marks.
 #[derive(Drop)]
 pub struct Pieces<'a> {
-    rest: &'a [u8],
-    done: bool,
+    rest: Option<&'a [u8]>,
     mark: u8,
 }
 
 impl<'a> Pieces<'a> {
     /// The pieces of a text.
     pub fn new(text: &'a [u8], mark: u8) -> Pieces<'a>
-        ensures { (result.rest.now ≡ text.now) × (result.done ≡ false) × (result.mark ≡ mark) }
+        ensures { (option_map (λ x. x.now) result.rest ≡ Some text.now) × (result.mark ≡ mark) }
     {
         Pieces {
-            rest: text,
-            done: false,
+            rest: Some(text),
             mark,
         }
     }
@@ -42,21 +33,21 @@ impl<'a> Pieces<'a> {
 impl<'a> Iterator for Pieces<'a> {
     type Item = &'a [u8];
 
-    ghost next_gives = { λ s r n. Cuts s.mark s.rest.now s.done (option_map (λ x. x.now) r) n.rest.now n.done };
+    ghost next_gives = { λ s r n. Cuts s.mark (option_map (λ x. x.now) s.rest) (option_map (λ x. x.now) r) (option_map (λ x. x.now) n.rest) };
 
-    ghost remaining = { λ s. at_most (if s.done then 0 else length s.rest.now + 1) };
+    ghost remaining = { λ s. at_most (most (option_map (λ x. x.now) s.rest)) };
 
     fn next(&mut self) -> Option<&'a [u8]> {
-        if self.done {
-            return None;
+        let text = self.rest?;
+        match first_mark(text, self.mark) {
+            Some(end) => {
+                self.rest = Some(&text[end + 1..]);
+                Some(&text[..end])
+            }
+            None => {
+                self.rest = None;
+                Some(text)
+            }
         }
-        let text = self.rest;
-        let end = first_mark(text, self.mark);
-        if end < text.len() {
-            self.rest = &text[end + 1..];
-        } else {
-            self.done = true;
-        }
-        Some(&text[0..end])
     }
 }

@@ -1,5 +1,5 @@
 //! The changes of a day.
-ghost use Rattle.std.specs.Prelude.{◌≡◌, ◌||◌, length, ◌==◌, slice_index};
+ghost use Rattle.std.specs.Prelude.{◌≡◌, ◌||◌, length, ◌==◌, slice_index, vec_len};
 
 use super::parse::change;
 use super::pieces::Pieces;
@@ -12,6 +12,7 @@ pub struct Script {
     pub changes: Vec<Change>,
     pub lines: Vec<usize>,
     pub unread: Option<usize>,
+    ghost paired: { vec_len lines ≡ vec_len changes },
 }
 
 /// Whether a line is empty or a comment.
@@ -33,31 +34,32 @@ impl Script {
 
     /// Reads a text up to the first line that cannot be read.
     pub fn read(text: &[u8], heap: Global) -> Result<Script, AllocError> {
-        let mut script = Script {
-            changes: Vec::new(heap),
-            lines: Vec::new(heap),
+        let mut changes = Vec::new(heap);
+        let mut lines = Vec::new(heap);
+        let text = &text[..text.len().min(Script::MOST_BYTES)];
+        for (k, line) in Pieces::new(text, b'\n').enumerate() {
+            if is_passed_over(line) {
+                continue;
+            }
+            let read = if changes.len() < Script::MOST_CHANGES {
+                change(line, heap)?
+            } else {
+                None
+            };
+            let Some(change) = read else {
+                return Ok(Script {
+                    changes,
+                    lines,
+                    unread: Some(k + 1),
+                });
+            };
+            changes.push(change)?;
+            lines.push(k + 1)?;
+        }
+        Ok(Script {
+            changes,
+            lines,
             unread: None,
-        };
-        let mut number = 0usize;
-        for line in Pieces::new(&text[0..text.len().min(Script::MOST_BYTES)], b'\n') {
-            number += 1;
-            if !is_passed_over(line) && !script.add(number, line, heap)? {
-                break;
-            }
-        }
-        Ok(script)
-    }
-
-    /// Adds the change of a line, or notes that the line cannot be read; tells whether it could.
-    fn add(&mut self, number: usize, line: &[u8], heap: Global) -> Result<bool, AllocError> {
-        if self.changes.len() < Script::MOST_CHANGES {
-            if let Some(change) = change(line, heap)? {
-                self.changes.push(change)?;
-                self.lines.push(number)?;
-                return Ok(true);
-            }
-        }
-        self.unread = Some(number);
-        Ok(false)
+        })
     }
 }

@@ -8,34 +8,23 @@ use plan::outcome::Outcome;
 pub fn count_accepted(log: &[Outcome]) -> usize
     ensures { result ≡ count_by is_accepted log.now }
 {
-    let mut count = 0;
-    for outcome in log {
-        if outcome.verdict.is_ok() {
-            count += 1;
-        }
-    }
-    count
+    log.iter().filter(|outcome| outcome.verdict.is_ok()).count()
 }
 
 /// How many changes were refused with this number.
 pub fn count_refused(log: &[Outcome], number: usize) -> usize
     ensures { result ≡ count_by (is_refused number) log.now }
 {
-    let mut count = 0;
-    for outcome in log {
-        if is_refused(outcome, number) {
-            count += 1;
-        }
-    }
-    count
+    log.iter()
+        .filter(|outcome| is_refused(outcome, number))
+        .count()
 }
 
 /// Whether a change was refused with this number.
 fn is_refused(outcome: &Outcome, number: usize) -> bool
     ensures { result ≡ is_refused number outcome.now }
 {
-    match outcome.verdict {
-        Ok(()) => false,
-        Err(refusal) => refusal.number() == number,
-    }
+    outcome
+        .verdict
+        .is_err_and(|refusal| refusal.number() == number)
 }

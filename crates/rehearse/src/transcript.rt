@@ -14,20 +14,11 @@ use terms::refusal::Refusal;
 /// The greatest number of a refusal.
 const GREATEST_NUMBER: usize = 17;
 
-/// The line of a refusal.
-fn refusal_line(refusal: &Refusal, heap: Global) -> Result<String, AllocError>
-    ensures { IfOk result (λ s. string_bytes s ≡ refused_line refusal.now) }
-{
-    let number = refusal.number();
-    let tells = refusal.tells();
-    format!(in heap; "refused {number} at {tells}\n")
-}
-
 /// What is printed of a table file that is refused.
 pub fn refusal_text(refusal: &Refusal, heap: Global) -> Result<Vec<u8>, AllocError>
     ensures { IfOk result (λ v. v.items ≡ refused_line refusal.now) }
 {
-    refusal_line(refusal, heap)?.as_bytes().to_vec(heap)
+    Ok(format!(in heap; "{refusal}\n")?.into_bytes())
 }
 
 /// The line of a change, by what became of it.
@@ -36,11 +27,7 @@ fn outcome_line(line: usize, outcome: &Outcome, heap: Global) -> Result<String, 
 {
     match outcome.verdict {
         Ok(()) => format!(in heap; "{line} accepted\n"),
-        Err(refusal) => {
-            let number = refusal.number();
-            let tells = refusal.tells();
-            format!(in heap; "{line} refused {number} at {tells}\n")
-        }
+        Err(refusal) => format!(in heap; "{line} {refusal}\n"),
     }
 }
 

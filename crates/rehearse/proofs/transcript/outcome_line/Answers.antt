@@ -4,12 +4,8 @@ use Rattle.rehearse.specs.Transcript.{outcome_text}
 use Rattle.rehearse.proofs.Lines.{outcome_pieces}
 use Rattle.rehearse.proofs.transcript.outcome_line.Goals as goal
 
-pub returns-in-Ok : goal.returns-in-Ok
-returns-in-Ok c = IfOk-weaker c.format.result _ _ (λ s h. h ∙ ap (outcome_text c.args.line) (sym c.in-Ok.is)) c.format.ensures.ok
-
 pub returns-in-Err : goal.returns-in-Err
 returns-in-Err c =
     IfOk-weaker c.format-in-Err.result _ _
-    (λ s h. h ∙ outcome_pieces c.args.line c.in-Err.refusal c.number-number.result c.tells-tells.result c.number-number.ensures c.tells-tells.ensures
-    ∙ ap (outcome_text c.args.line) (sym c.in-Err.is))
+    (λ s h. h ∙ outcome_pieces c.args.line c.in-Err.refusal ∙ ap (outcome_text c.args.line) (sym c.in-Err.is))
     c.format-in-Err.ensures.ok

@@ -1,24 +1,19 @@
-use Rattle.std.proofs.Common.{◌+◌, ◌-◌, true, length, take, drop, sym, subst, arith, rules}
-use Rattle.rehearse.specs.Cutting.{Cut}
-use Rattle.rehearse.specs.declared.pieces.Pieces.{Pieces}
-use Rattle.rehearse.proofs.Cuts.{all_behind, cut_at, cut_more}
+use Rattle.std.proofs.Common.{◌≡◌, ◌+◌, ◌-◌, Bor, Some, None, List, ℕ, Option, length, take, drop, sym, subst, ◌∙◌}
+use Rattle.std.specs.Option.{option_map}
+use Rattle.rehearse.specs.Cutting.{Cuts}
+use Rattle.rehearse.proofs.Cuts.{cut_last, cut_more}
 use Rattle.rehearse.proofs.pieces.PiecesIterator.next.Goals as goal
-use Rattle.rehearse.proofs.pieces.PiecesIterator.next.Goals.{then-end-text, else-end-text}
 
-pub returns : goal.returns
-returns c =
-    let text = c.args.self.now.rest.now in
-    let mark = c.args.self.now.mark in
-    let n = c.first_mark-end.result in
-    record {
-      steps = (
-        c.if-self.false,
-        elim c.if-end-text.branch [
-          | then-end-text w ↦ subst (λ (p : Pieces). Cut mark text (take (n - 0) text) p.rest.now p.done) (sym w.self-is)
-              (cut_more mark text (take (length text - (n + 1)) (drop (n + 1) text)) (n - 0) n (omega arith) c.first_mark-end.ensures.before _ c.if-self.false w.if-end-text.true (c.first_mark-end.ensures.found w.if-end-text.true) (all_behind text (n + 1)))
-          | else-end-text w ↦ subst (λ (p : Pieces). Cut mark text (take (n - 0) text) p.rest.now p.done) (sym w.self-is)
-              (cut_at mark text text (n - 0) n (omega arith) c.first_mark-end.ensures.before true c.first_mark-end.ensures.within (omega (arith, w.if-end-text.false, c.first_mark-end.ensures.within)))
-        ],
-      );
-      goes = search rules;
-    }
+pub returns-in-Some-clause-steps : goal.returns-in-Some-clause-steps
+returns-in-Some-clause-steps c =
+    let text = c.in_ok-text.text.now in
+    let n = c.in-Some.end in
+    let is : c.args.self.now.rest ≡ Some c.in_ok-text.text = cc in
+    subst (λ (o : Option (Bor (List ℕ))). Cuts c.args.self.now.mark (option_map (λ x. x.now) o) (Some (take n text)) (Some (take (length text - (n + 1)) (drop (n + 1) text)))) (sym is)
+    (cut_more c.args.self.now.mark text n (sym c.first_mark.ensures ∙ c.in-Some.is))
+
+pub returns-in-None-clause-steps : goal.returns-in-None-clause-steps
+returns-in-None-clause-steps c =
+    let is : c.args.self.now.rest ≡ Some c.in_ok-text.text = cc in
+    subst (λ (o : Option (Bor (List ℕ))). Cuts c.args.self.now.mark (option_map (λ x. x.now) o) (Some c.in_ok-text.text.now) None) (sym is)
+    (cut_last c.args.self.now.mark c.in_ok-text.text.now (sym c.first_mark.ensures ∙ c.in-None.is))
