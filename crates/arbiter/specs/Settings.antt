@@ -1,9 +1,15 @@
 -- Which setting is refused, and what is made of settings in range. Assumes nothing.
-use Rattle.std.specs.Prelude.{◌≡◌, ℕ, Bool, List, [], ◌∷◌, Some, None, Ok, Err, Option, Result}
+use Rattle.std.specs.Prelude.{◌≡◌, ℕ, ◌≤◌, Bool, List, [], ◌∷◌, Some, None, Ok, Err, Option, Result}
 use Rattle.terms.specs.Checks.{within}
 use Rattle.terms.specs.Units.{DelayPerRequest}
 use Rattle.terms.specs.declared.refusal.Refusal.{Refusal}
 use Rattle.terms.specs.Refusals.{told}
+
+abbrev pub Within : ℕ → ℕ → ℕ → Type 0
+Within least most x = (least ≤ x) × (x ≤ most)
+
+abbrev pub Outside : ℕ → ℕ → ℕ → ℕ → Refusal → Type 0
+Outside position least most x e = (told e ≡ (8, position)) × (Within least most x → ⊥)
 
 -- with each setting in its range a value is made, of which P holds; else the first that is not is told
 abbrev pub Made : {A : Type 0} → Option ℕ → Result A Refusal → (A → Type 0) → Type 0
