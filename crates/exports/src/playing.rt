@@ -33,6 +33,7 @@ impl Rooms {
 
     /// Plays a script from the birth of the plan of a file, under a pile, and adds what each call answers; refuses a
     /// setting out of its range, and a file with a fault.
+    // the script and the answers are lent one by one: of a struct that holds them the check covers no lent field
     pub(crate) fn play_under(
         self,
         file: &[u8],
@@ -92,7 +93,7 @@ impl Rooms {
 }
 
 /// A plan under an arbiter, and the tables that a trial works on.
-// the answers stay beside it: of a struct that holds a lent buffer the check covers no lent field
+// the answers stay beside it, as above
 #[derive(Drop)]
 struct Player<'a, B> {
     plan: Plan,

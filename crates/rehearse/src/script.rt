@@ -9,6 +9,7 @@ use std::alloc::{AllocError, Global};
 /// The changes in their order, the line of each, counted from 1, and the first line that cannot be read.
 #[derive(Drop)]
 pub struct Script {
+    // a rehearsal takes a slice of changes, so their lines stand beside them
     pub changes: Vec<Change>,
     pub lines: Vec<usize>,
     pub unread: Option<usize>,

@@ -67,7 +67,7 @@ fn add_counts(text: &mut Vec<u8>, log: &[Outcome], heap: Global) -> Result<(), A
 
 /// Adds the listing of the last plan: a line for each task.
 fn add_listing(text: &mut Vec<u8>, times: &Times) -> Result<(), AllocError> {
-    // 64 lines of at most 57 bytes
+    // a listing is written into a lent buffer: 64 lines of at most 57 bytes
     let mut listing = [0; 3648];
     match write_listing(times, &mut listing) {
         Ok(length) => text.extend_from_slice(&listing[0..length]),
