@@ -43,6 +43,7 @@ state tables placement = record {
   placement = placement.cores;
 }
 
+-- the same of tables and a placement that are examined together
 abbrev pub state_of_placed : Placed → State
 state_of_placed p = state p.tables.now p.placement.now
 

@@ -131,6 +131,7 @@ fn asked_by(tables: &Tables, roles: &Roles, p: Core, t: Reckoned) -> Asked
     let mut execution = Picos::NONE;
     let mut requests = Requests::NONE;
     let mut others = [Requests::NONE; 4];
+    // the part by its number: zipped with the tasks, the invariant lacks the lists that it speaks of
     for (k, task) in tasks.iter().enumerate() {
         let x = Ranged { task };
         match roles.at(k) {

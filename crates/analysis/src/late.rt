@@ -20,6 +20,7 @@ impl Placed<'_> {
             };
             let last = task.limit.get();
             let mut t = task.start();
+            // the steps stand here and in `response`: this loop is left from inside with the first late task
             'steps: while t <= last {
                 let next = self.demanded(&task, Reckoned::new(t), arbiter).get();
                 if next == t {

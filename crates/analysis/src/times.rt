@@ -37,7 +37,7 @@ impl Placed<'_> {
     pub fn times<B: Arbiter>(&self, out: &mut [Picos], arbiter: &B) -> Result<(), Refusal>
         ensures { Times (B.bound arbiter.now) (state_of_placed self.now) out.old result out.new }
     {
-        // 0 where there is no time, as the product's description says
+        // 0 stands for no time in every buffer of times, as docs/MODEL.md says
         fill(out, self.tables.tasks().len(), |i| {
             self.at(i).response(arbiter).unwrap_or(Picos::NONE)
         })
