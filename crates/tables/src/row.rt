@@ -17,16 +17,19 @@ pub trait Row: Sized {
     ghost kind: { Kind Self };
 
     /// The width of a row in bytes, without its name.
+    // a function beside the constant: in code for any kind of row a proof does not know the constant's value
     fn fixed_width() -> usize
         ensures { result ≡ kind.width };
 
     /// What a fixed part says.
+    // a slice of this length: a constant of the trait cannot be the length of an array
     fn value(fixed: &[u8]) -> Self
         requires { length fixed.now ≡ kind.width }
         ensures { result ≡ kind.value fixed.now };
 
     /// Refuses the row at this offset for its fault, where there are so many partitions and `before` are the rows before
     /// it.
+    // two parameters: with each row `before` grows, so that a struct of both would be made anew for each row
     fn check(&self, at: usize, partitions: usize, before: &[Self]) -> Result<(), Refusal>
         ensures { MatchResult result (λ _. kind.fault at partitions before.now self.now ≡ None) (λ e. kind.fault at partitions before.now self.now ≡ Some e) };
 

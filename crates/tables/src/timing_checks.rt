@@ -15,6 +15,7 @@ impl Numbers {
     fn first_out_of_range(&self) -> Option<usize>
         ensures { result ≡ first_out 0 (numbers_in_range self.now) }
     {
+        // one test a line, at the position that a refusal tells: a chain over the arrays would not show it
         let tests = [
             is_within(SHORTEST_PERIOD, LONGEST_TIME, self.period.get()),
             is_within(1, LONGEST_TIME, self.deadline.get()),

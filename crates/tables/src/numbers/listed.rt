@@ -10,6 +10,7 @@ impl From<[u64; 10]> for Numbers {
     ghost from_gives = { λ ns numbers. in_order numbers ≡ ns };
 
     fn from(ns: [u64; 10]) -> Numbers {
+        // each written out: of `map` over an array the proof of the whole list did not close
         let [period, deadline, c0, c1, c2, c3, h0, h1, h2, h3] = ns;
         Numbers {
             period: Picos::new(period),
