@@ -30,6 +30,7 @@ impl Text for Times {
 
     ghost most = { 3648 };
 
+    #[tactic(auto, using(crate::proofs::Rows::length_row))]
     fn length(&self) -> usize {
         let times = self.as_slice();
         let mut needed = 0;
