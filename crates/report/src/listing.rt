@@ -1,5 +1,5 @@
 //! The listing: one line for each time.
-ghost use Rattle.std.specs.Prelude.{◌≡◌, ℕ, ◌≤◌, true, length, is_ok, codes};
+ghost use Rattle.std.specs.Prelude.{◌≡◌, ◌≤◌, true, length, is_ok};
 ghost use Rattle.report.specs.Listed.{listed};
 ghost use Rattle.report.specs.Text.{Written, line, listing};
 
