@@ -13,6 +13,7 @@ fn main(rt: HostRuntime) -> io::Result<()> {
     let file = first_bytes(&rt, "station.tab", TABLE_BYTES)?;
     let allocation = first_bytes(&rt, "station.alloc", ALLOCATION_BYTES)?;
     let room = Room::reserve(rt.alloc())?;
+    // check_text writes into a lent buffer, as the C function does, and asks for no memory
     let mut text = [0; LONG_ENOUGH];
     let length = check_text(room, file.as_slice(), allocation.as_slice(), &mut text).unwrap();
     rt.stdout().write_all(&text[..length])

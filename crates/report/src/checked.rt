@@ -29,6 +29,7 @@ pub fn listing<B: Arbiter>(plan: &Plan, out: &mut [u8], arbiter: &B) -> Result<u
 
 /// The plan of a table file, once it has adopted an allocation under the pile of our station; or the refusal by the
 /// file or by the plan.
+// the file and the allocation stay two parameters: the C function and the programs pass them so
 pub fn judge(room: Room, file: &[u8], allocation: &[u8]) -> Result<Adopted, Refusal>
     ensures { Judgement file.now allocation.now result }
 {

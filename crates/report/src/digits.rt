@@ -32,6 +32,7 @@ impl Text for u64 {
 
 /// Writes the digits of a number into the front of a buffer, and tells how many there are; refuses a buffer that is
 /// too short.
+#[tactic(auto, using(crate::proofs::Puts::reads_back))]
 pub fn write_number(n: u64, out: &mut [u8]) -> Result<usize, Refusal>
     ensures written { Written (decimal n) out.old result out.new }
     ensures back { ReadsBack n result out.new }

@@ -1,5 +1,5 @@
 //! The listing: one line for each time.
-ghost use Rattle.std.specs.Prelude.{◌≡◌, ℕ, ◌≤◌, true, length, is_ok, codes};
+ghost use Rattle.std.specs.Prelude.{◌≡◌, ◌≤◌, true, length, is_ok};
 ghost use Rattle.report.specs.Listed.{listed};
 ghost use Rattle.report.specs.Text.{Written, line, listing};
 
@@ -30,6 +30,7 @@ impl Text for Times {
 
     ghost most = { 3648 };
 
+    #[tactic(auto, using(crate::proofs::Rows::length_row))]
     fn length(&self) -> usize {
         let times = self.as_slice();
         let mut needed = 0;
