@@ -13,16 +13,13 @@ mod transcript;
 
 use day::rehearse_day;
 use plan::outcome::Outcome;
-use report::input::first_bytes;
+use report::input::{TABLE_BYTES, first_bytes};
 use script::Script;
 use std::io;
 use std::io::Write;
 use tables::room::Room;
 use terms::numbers::Picos;
 use transcript::{refusal_text, transcript};
-
-/// A byte more than the largest table file has.
-const TABLE_BYTES: usize = 4236;
 
 fn main(rt: HostRuntime) -> io::Result<()> {
     let heap = rt.alloc();

@@ -36,6 +36,7 @@ fn is_tighter(tasks: &[Limited], k: usize, other: Option<usize>) -> bool
 pub(crate) fn least_slack(tasks: &[Limited]) -> Option<usize>
     ensures { Least tasks.now (length tasks.now) result }
 {
+    // a loop: `min_by_key` does not promise the first among equals
     let mut least = None;
     for (k, task) in tasks.iter().enumerate() {
         if task.time > Picos::NONE && is_tighter(tasks, k, least) {
