@@ -24,7 +24,8 @@ impl Ranged<'_> {
         if 0 < n && n <= by { 1 } else { n.div_ceil(by) }
     }
 
-    // two functions: which jobs of a task of the same partition count, and which of one on another core, are two questions
+    // two functions: which jobs of a task of the same partition count, and which of one on another core, are two
+    // questions; each hands the bound of `jobs` on, and a type for it would have to be taken apart at every product
     /// How many jobs of a task of the same partition count up to `t`.
     pub(crate) fn own_jobs(&self, t: Reckoned) -> u64
         ensures is { result ≡ own_jobs self.now.task.now t.t.0 }

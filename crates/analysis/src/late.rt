@@ -14,6 +14,7 @@ impl Placed<'_> {
     pub fn first_late<B: Arbiter>(&self, arbiter: &B) -> Option<usize>
         ensures { FirstLate (B.bound arbiter.now) (state_of_placed self.now) result }
     {
+        // a task is examined by its number, and no row is read here
         'tasks: for i in 0..self.tables.tasks().len() {
             let Some(task) = self.at(i).examine() else {
                 continue 'tasks;

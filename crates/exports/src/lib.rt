@@ -1,6 +1,7 @@
 //! The product for programs in other languages: a handful of functions on numbers and slices.
 #![tactic(auto)]
 
+// each of the four C functions takes the heap, the file and its buffers one by one, as C passes them
 pub mod answer;
 mod answers;
 pub mod checking;

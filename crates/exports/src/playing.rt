@@ -41,6 +41,7 @@ impl Rooms {
         script: &mut Script,
         answers: &mut Answers,
     ) -> Result<(), Refusal> {
+        // each kind is a type of its own, and the play is generic over it
         match pile.kind {
             Kind::RequestDriven => self.play(file, &pile.requests()?, script, answers),
             Kind::JobDriven => self.play(file, &pile.jobs()?, script, answers),

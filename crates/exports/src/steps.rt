@@ -150,13 +150,16 @@ impl<'a> Script<'a> {
         Some(Step::Adopt { entries })
     }
 
-    /// A placement: the partition, and the core.
-    fn place(&mut self) -> Option<Change> {
+    /// A partition, and a core for it.
+    fn placing(&mut self) -> Option<(usize, usize)> {
         let [partition, core] = self.numbers::<2>()?;
-        Some(Change::Place {
-            partition: partition as usize,
-            core: core as usize,
-        })
+        Some((partition as usize, core as usize))
+    }
+
+    /// A placement.
+    fn place(&mut self) -> Option<Change> {
+        let (partition, core) = self.placing()?;
+        Some(Change::Place { partition, core })
     }
 
     /// A withdrawal: the partition.
@@ -172,13 +175,10 @@ impl<'a> Script<'a> {
         Some(Change::Retime { task, numbers })
     }
 
-    /// What a trial is of: the partition, and the core.
+    /// What a trial is of.
     fn trial(&mut self) -> Option<Asked> {
-        let [partition, core] = self.numbers::<2>()?;
-        Some(Asked::Trial {
-            partition: partition as usize,
-            core: core as usize,
-        })
+        let (partition, core) = self.placing()?;
+        Some(Asked::Trial { partition, core })
     }
 
     /// A question for times: the length of the buffer.

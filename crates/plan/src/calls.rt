@@ -12,6 +12,7 @@ use arbiter::arbiter::Arbiter;
 use terms::cores::Core;
 use terms::refusal::Refusal;
 
+// a partition and a core come one by one: they are what the caller gives, in range or not, and a refusal tells one of them
 impl Plan {
     /// Takes on another placement, unless some task would then be late.
     fn settle<B: Arbiter>(&mut self, next: Placement, arbiter: &B) -> Result<(), Refusal>

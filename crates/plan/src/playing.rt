@@ -14,6 +14,7 @@ impl Plan {
     pub fn change<B: Arbiter>(&mut self, change: &Change, arbiter: &B) -> Result<(), Refusal>
         ensures { Call (B.bound arbiter.now) (state_of self.old) (asks (state_of self.old) change.now) result (state_of self.new) }
     {
+        // the four calls are a closed list, and each has arguments of its own
         match change {
             Change::Adopt { entries } => self.adopt(entries, arbiter),
             Change::Place { partition, core } => self.place(*partition, *core, arbiter),

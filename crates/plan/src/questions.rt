@@ -36,6 +36,7 @@ impl Plan {
         limit_at(&self.tables, task)
     }
 
+    // `times` and `windows` are two questions, each a line over what both share, `Placed`
     /// Fills the first entries of a buffer, one for each task, with its time, or 0 where it has none.
     pub fn times<B: Arbiter>(&self, out: &mut [Picos], arbiter: &B) -> Result<(), Refusal>
         ensures { Times (B.bound arbiter.now) (state_of self.now) out.old result out.new }

@@ -6,7 +6,7 @@ ghost use Rattle.rehearse.specs.Transcript.{outcome_text};
 use super::script::Script;
 use super::tally::{count_accepted, count_refused};
 use plan::outcome::Outcome;
-use report::listing::write_listing;
+use report::listing::{LONG_ENOUGH, write_listing};
 use report::times::Times;
 use std::alloc::{AllocError, Global};
 use terms::refusal::Refusal;
@@ -36,8 +36,8 @@ fn add_outcomes(
     text: &mut Vec<u8>,
     script: &Script,
     log: &[Outcome],
-    heap: Global,
 ) -> Result<(), AllocError> {
+    let heap = *text.allocator();
     for (line, outcome) in script.lines.iter().zip(log) {
         text.extend_from_slice(outcome_line(*line, outcome, heap)?.as_bytes())?;
     }
@@ -48,7 +48,8 @@ fn add_outcomes(
 }
 
 /// Adds a line for the whole, and one for each number that a refusal had.
-fn add_counts(text: &mut Vec<u8>, log: &[Outcome], heap: Global) -> Result<(), AllocError> {
+fn add_counts(text: &mut Vec<u8>, log: &[Outcome]) -> Result<(), AllocError> {
+    let heap = *text.allocator();
     let played = log.len();
     let accepted = count_accepted(log);
     let refused = played - accepted;
@@ -67,8 +68,8 @@ fn add_counts(text: &mut Vec<u8>, log: &[Outcome], heap: Global) -> Result<(), A
 
 /// Adds the listing of the last plan: a line for each task.
 fn add_listing(text: &mut Vec<u8>, times: &Times) -> Result<(), AllocError> {
-    // a listing is written into a lent buffer: 64 lines of at most 57 bytes
-    let mut listing = [0; 3648];
+    // a listing is written into a lent buffer
+    let mut listing = [0; LONG_ENOUGH];
     match write_listing(times, &mut listing) {
         Ok(length) => text.extend_from_slice(&listing[0..length]),
         Err(_) => Ok(()),
@@ -83,8 +84,8 @@ pub fn transcript(
     heap: Global,
 ) -> Result<Vec<u8>, AllocError> {
     let mut text = Vec::new(heap);
-    add_outcomes(&mut text, script, log, heap)?;
-    add_counts(&mut text, log, heap)?;
+    add_outcomes(&mut text, script, log)?;
+    add_counts(&mut text, log)?;
     add_listing(&mut text, times)?;
     Ok(text)
 }

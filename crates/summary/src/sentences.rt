@@ -8,6 +8,7 @@ use terms::refusal::Refusal;
 pub(crate) fn sentence_of(refusal: &Refusal) -> &'static str
     ensures { result.now ≡ sentence refusal.now }
 {
+    // not `Display`, which a refusal has already: its number and what it tells
     match refusal {
         Refusal::Incomplete { .. } => {
             "The file ends before the header or row at this offset is complete."
