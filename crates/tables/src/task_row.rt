@@ -32,10 +32,14 @@ impl Task {
 fn count_in(partition: usize, tasks: &[Task]) -> usize
     ensures { result ≡ count_in partition tasks.now }
 {
-    tasks
-        .iter()
-        .filter(|task| task.partition == partition)
-        .count()
+    // a loop: with `filter` and `count`, reading a full file took a tenth longer
+    let mut n: usize = 0;
+    for task in tasks {
+        if task.partition == partition {
+            n += 1;
+        }
+    }
+    n
 }
 
 impl Row for Task {
