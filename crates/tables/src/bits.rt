@@ -8,6 +8,7 @@ fn number_of(bytes: &[u8]) -> u64
     requires { length bytes.now ≤ 7 }
     ensures { result ≡ number_from_digits 256 bytes.now }
 {
+    // `from_be_bytes` takes eight bytes, and a field lies in seven at most
     let mut value: u64 = 0;
     for b in bytes {
         value = value * 256 + u64::from(*b);

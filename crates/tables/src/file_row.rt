@@ -4,7 +4,7 @@ ghost use Rattle.std.specs.Option.{option_map};
 ghost use Rattle.tables.specs.Handed.{fixed_of, name_in, offset_of};
 
 /// A row as it stands in the file: its offset, its fixed part and its name. A link has no name.
-// the cases hold their parts themselves, as the description of the rows has it
+// the cases hold their parts themselves: a link has no name, and none is made up for it
 #[derive(Clone, Copy)]
 pub enum FileRow<'a> {
     Partition {

@@ -20,6 +20,7 @@ impl Header {
     /// The width of the header in bytes.
     pub const WIDTH: usize = 3;
 
+    // not `From`: only the reader, which looks at the spare bits too, may make a header of bytes
     /// The header in these bytes, without the spare bits.
     pub(super) fn of(bytes: &[u8; Header::WIDTH]) -> Header
         ensures { result ≡ header_of bytes.now }

@@ -39,6 +39,7 @@ fn with_timing(task: Task, timing: Timing) -> Task
     }
 }
 
+// not `From`: a task by itself need not be in range
 /// The numbers of a task in range.
 fn timing_of(task: Task) -> Timing
     requires due { Period task.period.0 × ((1 ≤ task.deadline.0) × (task.deadline.0 ≤ 10 ^ 13)) }
