@@ -2,6 +2,7 @@
 ghost use Rattle.std.specs.Prelude.{ℕ, ◌<◌};
 ghost use Rattle.analysis.specs.Times.{Fills};
 
+use terms::checks::fits;
 use terms::numbers::Picos;
 use terms::refusal::Refusal;
 
@@ -14,9 +15,7 @@ pub(crate) fn fill<F: Fn(usize) -> Picos>(
     requires { (k : ℕ) → k < needed → F.pre entry k }
     ensures { Fills needed (F.post entry) out.old result out.new }
 {
-    if out.len() < needed {
-        return Err(Refusal::ShortBuffer { needed });
-    }
+    fits(needed, out.len())?;
     for (k, place) in out[..needed].iter_mut().enumerate() {
         *place = entry(k);
     }

@@ -6,6 +6,7 @@ use arbiter::question::Sharing;
 use terms::cores::Core;
 use terms::numbers::{Picos, Requests};
 
+// execution time and requests by themselves, as the definition of the demand names them
 /// A placed task under examination: all that its demand is made of, whatever the time, and its limit.
 #[derive(Clone, Copy)]
 pub(crate) struct Examined {

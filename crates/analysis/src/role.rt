@@ -62,6 +62,7 @@ impl TaskAt<'_> {
         let tasks = self.placed.tables.tasks();
         let own = &tasks[self.i];
         let mut of = [Role::Aside; 64];
+        // by index: what is written through a zip with `of.iter_mut()` is not known afterwards
         for (k, x) in tasks.iter().enumerate() {
             of[k] = role_of(
                 x,

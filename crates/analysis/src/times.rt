@@ -19,6 +19,7 @@ impl TaskAt<'_> {
         ensures { TimeIs (B.bound arbiter.now) (state_of_placed self.now.placed) self.now.i result }
     {
         let task = self.examine()?;
+        // the steps of `first_late` once more, which is left from inside of them
         let last = task.limit.get();
         let mut t = task.start();
         while t <= last {
@@ -37,7 +38,7 @@ impl Placed<'_> {
     pub fn times<B: Arbiter>(&self, out: &mut [Picos], arbiter: &B) -> Result<(), Refusal>
         ensures { Times (B.bound arbiter.now) (state_of_placed self.now) out.old result out.new }
     {
-        // 0 stands for no time in every buffer of times, as docs/MODEL.md says
+        // 0 stands for no time in every buffer of times and in every listing
         fill(out, self.tables.tasks().len(), |i| {
             self.at(i).response(arbiter).unwrap_or(Picos::NONE)
         })
@@ -48,6 +49,7 @@ impl Placed<'_> {
 pub fn limit_at(tables: &Tables, i: usize) -> Option<Picos>
     ensures { (q : Placement) → MatchOption result (length (state tables.now q).tasks ≤ i) (λ t. (i < length (state tables.now q).tasks) × (t.0 ≡ limit (state tables.now q) i)) }
 {
+    // with `then` and a closure, the promise for every placement was not proved
     if i < tables.tasks().len() {
         Some(limit_of(tables, i))
     } else {

@@ -32,7 +32,7 @@ impl Sharing {
     pub fn join(&mut self, a: Core, b: Core)
         ensures { self.new ≡ joined self.old (number_of a) (number_of b) }
     {
-        // one match to set a pair and one to read it: a type of the six pairs would need a third, to make it
+        // one match to set a pair and one to read it: the flags have names, since definitions make the record by them
         match in_order(usize::from(a), usize::from(b)) {
             (0, 1) => self.p01 = true,
             (0, 2) => self.p02 = true,
@@ -92,6 +92,7 @@ impl Question {
     /// The largest count that is reckoned with.
     pub const LARGEST: u64 = 1_000_000_000_000;
 
+    // a function: of a constant made by `Picos::new` the check does not know the value
     /// The most that an arbiter answers.
     pub fn ceiling() -> Picos
         ensures { result.0 ≡ ceiling }

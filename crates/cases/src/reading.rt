@@ -20,7 +20,7 @@ const TASK: [u8; 45] = [
 ];
 
 /// The number of the refusal and what it tells, where a file is refused.
-// as numbers: the format's page has them, and the test is to hold the numbers too
+// as numbers, since the numbers are to be held too
 fn told(file: &[u8], heap: Global) -> Result<Option<(usize, usize)>, AllocError> {
     let refusal = Tables::read(Room::reserve(heap)?, file).err();
     Ok(refusal.map(|refusal| (refusal.number(), refusal.tells())))

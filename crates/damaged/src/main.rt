@@ -8,11 +8,12 @@ use tables::held::Tables;
 use tables::room::Room;
 use terms::refusal::Refusal;
 
-/// What reading a file answers: nothing where it is accepted, else the refusal.
-type Answer = Option<Refusal>;
+/// What reading a file answers.
+type Answer = Result<(), Refusal>;
 
+/// What becomes of a file.
 fn answer(heap: Global, file: &[u8]) -> Result<Answer, AllocError> {
-    Ok(Tables::read(Room::reserve(heap)?, file).err())
+    Ok(Tables::read(Room::reserve(heap)?, file).map(|_| ()))
 }
 
 /// What becomes of a file with one bit turned; bit 0 is the highest of the first byte. The file is then as it was.
@@ -41,8 +42,8 @@ impl Run<'_> {
         let kind = self.kind;
         let from = self.from;
         match self.answer {
-            None => println!(rt; "{kind} {from}-{to}: accepted")?,
-            Some(refusal) => println!(rt; "{kind} {from}-{to}: {refusal}")?,
+            Ok(()) => println!(rt; "{kind} {from}-{to}: accepted")?,
+            Err(refusal) => println!(rt; "{kind} {from}-{to}: {refusal}")?,
         }
         Ok(())
     }

@@ -5,6 +5,7 @@ ghost use Rattle.exports.specs.Numbers.{in_numbers};
 use terms::refusal::Refusal;
 
 /// An answer as two numbers: 0 and what was asked for, or the number of a refusal and what it tells.
+// two numbers, and 255 for want of memory: C has no `Result`
 #[repr(C)]
 #[derive(Clone, Copy, Debug, PartialEq, Eq)]
 pub struct Answer {

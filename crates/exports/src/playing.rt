@@ -33,7 +33,8 @@ impl Rooms {
 
     /// Plays a script from the birth of the plan of a file, under a pile, and adds what each call answers; refuses a
     /// setting out of its range, and a file with a fault.
-    // the script and the answers are lent one by one: of a struct that holds them the check covers no lent field
+    // the script and the answers are lent one by one: of a struct that holds a lent value the check covers no field that is
+    // lent on
     pub(crate) fn play_under(
         self,
         file: &[u8],
@@ -41,7 +42,7 @@ impl Rooms {
         script: &mut Script,
         answers: &mut Answers,
     ) -> Result<(), Refusal> {
-        // each kind is a type of its own, and the play is generic over it
+        // each kind is a type of its own, and the play is generic over it: a `dyn` would not spare this match
         match pile.kind {
             Kind::RequestDriven => self.play(file, &pile.requests()?, script, answers),
             Kind::JobDriven => self.play(file, &pile.jobs()?, script, answers),
@@ -94,7 +95,7 @@ impl Rooms {
 }
 
 /// A plan under an arbiter, and the tables that a trial works on.
-// the answers stay beside it, as above
+// the answers stay beside it: of a struct that holds a lent value the check covers no field that is lent on
 #[derive(Drop)]
 struct Player<'a, B> {
     plan: Plan,
@@ -137,7 +138,7 @@ impl<'a, B: Arbiter> Player<'a, B> {
 
     /// The listing into a buffer of this length, and the whole buffer after that.
     fn list(&self, length: Length<MOST_BYTES>, answers: &mut Answers) {
-        // as above
+        // no memory is asked for once there is a plan
         let mut buffer = [MARK; MOST_BYTES];
         let out = &mut buffer[..length.get()];
         answers.result(listing(&self.plan, out, self.arbiter));

@@ -54,12 +54,9 @@ pub extern "C" fn station_tables(heap: Global, file: &[u8], out: &mut [u64]) -> 
     let Ok(room) = Room::reserve(heap) else {
         return Answer::no_memory();
     };
-    match Tables::read(room, file) {
-        Ok(tables) => {
-            let mut answers = Answers::new(out);
-            add_tables(&tables, &mut answers);
-            Answer::from(Ok(answers.len()))
-        }
-        Err(refusal) => Answer::from(Err(refusal)),
-    }
+    Answer::from(Tables::read(room, file).map(|tables| {
+        let mut answers = Answers::new(out);
+        add_tables(&tables, &mut answers);
+        answers.len()
+    }))
 }

@@ -32,10 +32,7 @@ impl<'a> Script<'a> {
     pub(crate) fn take(&mut self, n: usize) -> Option<&'a [u8]>
         ensures { Takes n self.old.rest.now (option_map (λ x. x.now) result) self.new.rest.now }
     {
-        if n > self.rest.len() {
-            return None;
-        }
-        let (front, rest) = self.rest.split_at(n);
+        let (front, rest) = self.rest.split_at_checked(n)?;
         self.rest = rest;
         Some(front)
     }
@@ -58,6 +55,7 @@ impl<'a> Script<'a> {
         Some(u64::from_be_bytes(*bytes))
     }
 
+    // as the words of a line are read in `rehearse`, but of bytes, and there is no more to look at behind them
     /// The next numbers.
     pub(crate) fn numbers<const N: usize>(&mut self) -> Option<[u64; N]> {
         let mut numbers = [0; N];

@@ -8,10 +8,10 @@ use tables::numbers::Numbers;
 use terms::cores::Core;
 use terms::numbers::{Picos, Requests};
 
-/// A number of times that no plan needs more than.
+/// The longest buffer of times: longer than any plan needs.
 pub(crate) const MOST_TIMES: usize = 80;
 
-/// A length that no listing is longer than.
+/// The longest buffer of bytes: longer than any listing.
 pub(crate) const MOST_BYTES: usize = 3_700;
 
 /// Why a length is refused: no buffer is so long.

@@ -11,6 +11,7 @@ use tables::held::Tables;
 use terms::cores::Core;
 use terms::refusal::Refusal;
 
+// a byte and no `Option<Core>`: entries come as they stand in the file, and adopt refuses the first that names no core
 /// The entry for a partition without a core.
 pub const UNPLACED: u8 = 255;
 

@@ -8,6 +8,7 @@ use super::outcome::Outcome;
 use super::plan::Plan;
 use arbiter::arbiter::Arbiter;
 use tables::room::Room;
+use terms::checks::fits;
 use terms::numbers::Picos;
 use terms::refusal::Refusal;
 
@@ -35,10 +36,7 @@ pub fn rehearse<B: Arbiter>(
     ensures { Rehearsal (B.bound arbiter.now) file.now changes.now log.old (states result) log.new }
 {
     let mut plan = Plan::from_file(room, file)?;
-    let needed = changes.len();
-    if log.len() < needed {
-        return Err(Refusal::ShortBuffer { needed });
-    }
+    fits(changes.len(), log.len())?;
     // by index: what is written through a zip with `log.iter_mut()` is not known afterwards
     for (k, change) in changes.iter().enumerate() {
         log[k] = plan.play(change, arbiter);

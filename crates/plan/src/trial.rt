@@ -9,6 +9,7 @@ use super::plan::Plan;
 use analysis::placed::Placed;
 use arbiter::arbiter::Arbiter;
 use tables::held::spare::Spare;
+use terms::checks::fits;
 use terms::cores::Core;
 use terms::numbers::Picos;
 use terms::refusal::Refusal;
@@ -68,10 +69,6 @@ impl Plan {
         if self.placement.core_of(partition).is_some() {
             return Err(Refusal::Placed { partition });
         }
-        let needed = self.tables.tasks().len();
-        if room < needed {
-            return Err(Refusal::ShortBuffer { needed });
-        }
-        Ok(())
+        fits(self.tables.tasks().len(), room)
     }
 }

@@ -1,4 +1,3 @@
 mod Cuts
-mod Days
 mod Digits
 mod Lines

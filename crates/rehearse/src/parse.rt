@@ -5,6 +5,7 @@ use plan::change::Change;
 use std::alloc::{AllocError, Global};
 use tables::numbers::Numbers;
 
+// as `exports` reads the numbers of a script, but of words, and nothing may follow
 /// The numbers that the words say, where there are exactly so many words and each says one.
 fn numbers<const N: usize>(words: &mut Pieces) -> Option<[u64; N]> {
     let mut numbers = [0; N];

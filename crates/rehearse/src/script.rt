@@ -1,5 +1,5 @@
 //! The changes of a day.
-ghost use Rattle.std.specs.Prelude.{◌≡◌, ◌||◌, length, ◌==◌, slice_index, vec_len};
+ghost use Rattle.std.specs.Prelude.{◌≡◌, ◌||◌, length, ◌==◌, slice_index};
 
 use super::parse::change;
 use super::pieces::Pieces;
@@ -13,7 +13,6 @@ pub struct Script {
     pub changes: Vec<Change>,
     pub lines: Vec<usize>,
     pub unread: Option<usize>,
-    ghost paired: { vec_len lines ≡ vec_len changes },
 }
 
 /// Whether a line is empty or a comment.

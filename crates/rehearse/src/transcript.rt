@@ -32,11 +32,7 @@ fn outcome_line(line: usize, outcome: &Outcome, heap: Global) -> Result<String, 
 }
 
 /// Adds a line for each change that was played, and one for the line that could not be read.
-fn add_outcomes(
-    text: &mut Vec<u8>,
-    script: &Script,
-    log: &[Outcome],
-) -> Result<(), AllocError> {
+fn add_outcomes(text: &mut Vec<u8>, script: &Script, log: &[Outcome]) -> Result<(), AllocError> {
     let heap = *text.allocator();
     for (line, outcome) in script.lines.iter().zip(log) {
         text.extend_from_slice(outcome_line(*line, outcome, heap)?.as_bytes())?;

@@ -3,6 +3,7 @@ use Rattle.std.proofs.Common.{◌≡◌, ℕ, ◌<◌, List, length, get_or, Som
 use Rattle.std.proofs.lemmas.List.{get_or-take, length-take-le}
 use Rattle.terms.specs.Units.{Picos}
 use Rattle.terms.specs.declared.refusal.Refusal.{Refusal}
+use Rattle.arbiter.proofs.Making.{made_of}
 use Rattle.arbiter.specs.Settings.{Made}
 use Rattle.arbiter.specs.Station.{OurPile}
 use Rattle.arbiter.specs.declared.job_driven.JobDriven.{JobDriven}
@@ -35,10 +36,6 @@ listed_times bound s fresh filled x times same count old new r written =
     }
 
 -- what was made
-pub made_of : {A : Type 0} (P : A → Type 0) (o : Option ℕ) (a : A) → Made o (Ok a) P → P a
-made_of P None a h = h
-made_of P (Some k) a h = absurd h
-
 module _ (file entries : List ℕ) (s z : State) (pile : Lesser RequestDriven JobDriven) (n : ℕ) (o : Option ℕ) (r : Result (Unit {0}) Refusal) where
   pub judged : Born file s → n ≡ s.cores → Made o (Ok pile) (λ a. OurPile n a) → Call (pile_bound pile) s (adopt_asks s entries) r z → Judged file entries pile r z
   judged born cores made call = record {

@@ -8,7 +8,6 @@ pub mod judged;
 mod lines;
 pub mod listing;
 pub mod refused;
-mod room;
 mod text;
 pub mod times;
 pub mod worked;

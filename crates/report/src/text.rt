@@ -2,7 +2,7 @@
 ghost use Rattle.std.specs.Prelude.{◌≡◌, ℕ, ◌≤◌, true, List, length, is_ok};
 ghost use Rattle.report.specs.Text.{Put, Written};
 
-use super::room::fits;
+use terms::checks::fits;
 use terms::refusal::Refusal;
 
 /// What has a text.
@@ -18,6 +18,7 @@ pub(crate) trait Text {
         ensures is { result ≡ length (text self.now) }
         ensures few { result ≤ most };
 
+    // into a lent buffer, whose tail the next text gets: nothing here asks for memory
     /// Puts the text into the front of a buffer that has room for it, and tells its length.
     fn put(&self, out: &mut [u8]) -> usize
         requires { length (text self.now) ≤ length out.old }

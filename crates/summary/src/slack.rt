@@ -12,6 +12,14 @@ pub(crate) struct Limited {
 }
 
 impl Limited {
+    /// A time, and no limit yet.
+    pub(crate) fn unlimited(time: Picos) -> Limited {
+        Limited {
+            time,
+            limit: Picos::NONE,
+        }
+    }
+
     /// The limit less the time.
     pub(crate) fn slack(self) -> u64
         ensures { result ≡ slack_of self }
@@ -26,19 +34,17 @@ fn is_tighter(tasks: &[Limited], k: usize, other: Option<usize>) -> bool
     requires other { IfSome other (λ i. i < length tasks.now) }
     ensures { result ≡ tighter tasks.now k other }
 {
-    match other {
-        Some(i) => tasks[k].slack() < tasks[i].slack(),
-        None => true,
-    }
+    other.is_none_or(|i| tasks[k].slack() < tasks[i].slack())
 }
 
 /// The task with the least slack, the first among equals, of those that have a time.
 pub(crate) fn least_slack(tasks: &[Limited]) -> Option<usize>
     ensures { Least tasks.now (length tasks.now) result }
 {
-    // a loop: `min_by_key` does not promise the first among equals
+    // a loop: a chain would number the tasks, leave some out, take the least by a key and then drop the key again
     let mut least = None;
     for (k, task) in tasks.iter().enumerate() {
+        // 0 stands for no time, as a plan tells it
         if task.time > Picos::NONE && is_tighter(tasks, k, least) {
             least = Some(k);
         }

@@ -107,15 +107,12 @@ impl Teller<'_> {
     fn tell_least_slack(&self, plan: &Plan, pile: &Pile) -> io::Result<()> {
         let mut times = [Picos::NONE; 64];
         let _ = plan.times(&mut times, pile);
-        let tasks = times
-            .iter()
-            .enumerate()
-            .map(|(k, time)| Limited {
-                time: *time,
-                limit: limit_of(plan, k),
-            })
-            .collect::<Vec<Limited>>(self.rt.alloc())?;
-        let Some(task) = least_slack(tasks.as_slice()) else {
+        // an array: no memory is asked for once there is a plan
+        let mut tasks = times.map(Limited::unlimited);
+        for (k, task) in tasks.iter_mut().enumerate() {
+            task.limit = limit_of(plan, k);
+        }
+        let Some(task) = least_slack(&tasks) else {
             return println!(self.rt; "No task is placed.");
         };
         let name = task_name(self.file, task);

@@ -29,7 +29,7 @@ pub fn bits_at(bytes: &[u8], from: usize, width: usize) -> u64
     requires { (from + width ≤ 8 * length bytes.now) × ((from ≤ 1000) × (width ≤ 44)) }
     ensures { result ≡ bits_at from width bytes.now }
 {
-    let end = (from + width + 7) / 8;
+    let end = (from + width).div_ceil(8);
     let value = number_of(&bytes[from / 8..end]);
     cut(value, 8 * end - (from + width), width)
 }

@@ -9,6 +9,7 @@ use super::row::Row;
 use terms::refusal::Refusal;
 
 /// Stands in the file and moves forward row by row.
+// the whole file with an offset, since a fault is told by its offset
 #[derive(Drop)]
 pub struct Reader<'a> {
     file: &'a [u8],

@@ -17,6 +17,7 @@ use terms::refusal::Refusal;
 const MOST_IN_PARTITION: usize = 16;
 
 impl Task {
+    // the ranges of `Numbers::first_out_of_range`, but whether and not which: a fault of a row tells its offset alone
     /// Whether the task's times and counts are in range.
     fn is_in_range(&self) -> bool
         ensures { result ≡ task_in_range self.now }
@@ -49,6 +50,7 @@ impl Row for Task {
         Self::WIDTH
     }
 
+    // each field by its first bit, as the format lists them: a loop over equal widths would hide the places
     fn value(fixed: &[u8]) -> Task {
         Task {
             partition: bits_at(fixed, 0, 4) as usize,

@@ -1,3 +1,4 @@
 pub mod FirstOut
+pub mod Handed
 pub mod Numbering
 pub mod Sums

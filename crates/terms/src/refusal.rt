@@ -78,23 +78,21 @@ impl Refusal {
         ensures { result ≡ (told self.now).1 }
     {
         match self {
-            Refusal::Incomplete { at } => *at,
-            Refusal::FieldRange { at } => *at,
-            Refusal::BadName { at } => *at,
-            Refusal::RowPartition { at } => *at,
-            Refusal::LinkOrder { at } => *at,
-            Refusal::BytesAfterEnd { at } => *at,
-            Refusal::PartitionFull { at } => *at,
-            Refusal::Setting { position } => *position,
-            Refusal::NoPartition { partition } => *partition,
+            Refusal::Incomplete { at }
+            | Refusal::FieldRange { at }
+            | Refusal::BadName { at }
+            | Refusal::RowPartition { at }
+            | Refusal::LinkOrder { at }
+            | Refusal::BytesAfterEnd { at }
+            | Refusal::PartitionFull { at } => *at,
+            Refusal::Setting { position } | Refusal::NumberRange { position } => *position,
+            Refusal::NoPartition { partition }
+            | Refusal::NotPlaced { partition }
+            | Refusal::Placed { partition } => *partition,
             Refusal::NoCore { core } => *core,
             Refusal::NoCoreAt { index } => *index,
-            Refusal::NoTask { task } => *task,
-            Refusal::NotPlaced { partition } => *partition,
+            Refusal::NoTask { task } | Refusal::Late { task } => *task,
             Refusal::AllocationLength { length } => *length,
-            Refusal::NumberRange { position } => *position,
-            Refusal::Late { task } => *task,
-            Refusal::Placed { partition } => *partition,
             Refusal::ShortBuffer { needed } => *needed,
         }
     }

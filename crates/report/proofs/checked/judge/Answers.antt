@@ -1,5 +1,5 @@
-use Rattle.std.proofs.Common.{Err, Result, sym, ap, ◌∙◌, subst, inr}
-use Rattle.std.proofs.lemmas.Result.{err_from_is_err_and}
+use Rattle.std.proofs.Common.{Err, Result, sym, subst, inr}
+use Rattle.terms.proofs.Handed.{handed_on}
 use Rattle.terms.specs.declared.refusal.Refusal.{Refusal}
 use Rattle.plan.specs.Born.{state_of}
 use Rattle.report.specs.Checked.{Judgement}
@@ -9,8 +9,7 @@ use Rattle.report.proofs.checked.judge.Goals as goal
 
 pub returns-in_err-adopt : goal.returns-in_err-adopt
 returns-in_err-adopt c =
-    let p = err_from_is_err_and c.from_residual-in_err-adopt.result c.from_residual-in_err-adopt.ensures.1 in
-    let is = p.1 ∙ ap Err p.2 in
+    let is = handed_on c.from_residual-in_err-adopt.result _ c.from_residual-in_err-adopt.ensures.1 in
     let j = judged c.args.file.now c.args.allocation.now (state_of c.in_ok-plan.plan) (state_of c.adopt.new.self) c.in_ok-pile.pile c.cores.result _ (Err c.in_err-adopt.field-0.0)
     c.in_ok-plan.ensures c.cores.ensures.is c.in_ok-pile.ensures c.in_err-adopt.ensures in
     subst (λ (r : Result Adopted Refusal). Judgement c.args.file.now c.args.allocation.now r) (sym is) (inr (c.in_ok-pile.pile, state_of c.adopt.new.self, j))

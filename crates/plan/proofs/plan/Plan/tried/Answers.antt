@@ -1,7 +1,7 @@
-use Rattle.std.proofs.Common.{◌≡◌, List, length, set, Err, Option, Result, sym, ap, ◌∙◌, subst}
-use Rattle.std.proofs.lemmas.Result.{err_from_is_err_and}
+use Rattle.std.proofs.Common.{◌≡◌, List, length, set, Option, Result, sym, ap, ◌∙◌, subst}
 use Rattle.terms.specs.declared.cores.Core.{Core}
 use Rattle.terms.specs.declared.refusal.Refusal.{Refusal}
+use Rattle.terms.proofs.Handed.{handed_on}
 use Rattle.terms.proofs.Numbering.{numbered_ok}
 use Rattle.tables.specs.Tabled.{tabled}
 use Rattle.analysis.specs.Demand.{state_of_placed}
@@ -28,12 +28,11 @@ restored g c after back =
 pub returns-in_err-in_time-clause-trial : goal.returns-in_err-in_time-clause-trial
 returns-in_err-in_time-clause-trial g c =
     let d = (goal.at.returns-in_err-in_time-clause-trial g c).After-put in
-    let p = err_from_is_err_and c.from_residual.result c.from_residual.ensures.1 in
     let late = c.in_err-in_time.ensures in
     let same : state_of_placed c.new-placed.result ≡ tried (state_of c.args.self.now) c.args.partition c.args.core = rw (c.new-placed.ensures.0, c.new-placed.ensures.1) (examined g d) in
     record {
       stands = restored g d c.drop-guard.new.self.0.cores c.drop-guard.ensures;
-      answer = subst (λ (r : Result (Unit {0}) Refusal). Tried (g.B.Arbiter.bound c.args.arbiter.now) (state_of c.args.self.now) c.args.partition c.args.core (trial_refusal (state_of c.args.self.now) c.args.partition c.args.core (length c.args.out.now)) c.args.out.now r c.args.out.now) (sym (p.1 ∙ ap Err p.2)) (trial_late (state_of c.args.self.now) c.args.partition c.args.core (g.B.Arbiter.bound c.args.arbiter.now) c.args.out.now c.requires _ late.0 _ same late.1 late.2);
+      answer = subst (λ (r : Result (Unit {0}) Refusal). Tried (g.B.Arbiter.bound c.args.arbiter.now) (state_of c.args.self.now) c.args.partition c.args.core (trial_refusal (state_of c.args.self.now) c.args.partition c.args.core (length c.args.out.now)) c.args.out.now r c.args.out.now) (sym (handed_on _ _ c.from_residual.ensures.1)) (trial_late (state_of c.args.self.now) c.args.partition c.args.core (g.B.Arbiter.bound c.args.arbiter.now) c.args.out.now c.requires _ late.0 _ same late.1 late.2);
     }
 
 pub returns-clause-trial : goal.returns-clause-trial
