@@ -40,6 +40,7 @@ pub fn rehearse_day(
     let header = header_of(file);
     let pile = station(header.cores)?;
     let plan = rehearse(room, file, changes, log, &pile)?;
+    // as in `listing` of report: a function for these two lines would promise as much as both callers
     let mut entries = [Picos::NONE; 64];
     plan.times(&mut entries, &pile)?;
     Ok(Times::new(entries, header.tasks))

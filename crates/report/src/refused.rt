@@ -6,6 +6,7 @@ use super::lines::{Labelled, Line};
 use super::text::{Text, write};
 use terms::refusal::Refusal;
 
+// not by `Display`, which writes through a formatter: a lent buffer is none
 /// The line of a refusal.
 fn line_of(refusal: &Refusal) -> Line<'static>
     ensures { ⟦<Line<'static> as Text>⟧.text result ≡ refused_line refusal.now }

@@ -33,6 +33,7 @@ pub trait Row: Sized {
     fn check(&self, at: usize, partitions: usize, before: &[Self]) -> Result<(), Refusal>
         ensures { MatchResult result (λ _. kind.fault at partitions before.now self.now ≡ None) (λ e. kind.fault at partitions before.now self.now ≡ Some e) };
 
+    // this and `handed` by each kind for itself: where a length stands, and which case a row is, are what kinds differ in
     /// The length of the name that follows a fixed part.
     fn name_length(fixed: &[u8]) -> usize
         requires { length fixed.now ≡ kind.width }
