@@ -21,7 +21,8 @@ impl Placed<'_> {
             };
             let last = task.limit.get();
             let mut t = task.start();
-            // the steps stand here and in `response`: this loop is left from inside with the first late task
+            // the steps stand here and in `response`: labelled loops, left from inside with the first late task, are what
+            // this product is asked to have, and a call of `response` would leave none
             'steps: while t <= last {
                 let next = self.demanded(&task, Reckoned::new(t), arbiter).get();
                 if next == t {
@@ -38,6 +39,7 @@ impl Placed<'_> {
     pub fn in_time<B: Arbiter>(&self, arbiter: &B) -> Result<(), Refusal>
         ensures { MatchResult result (λ _. FirstLate (B.bound arbiter.now) (state_of_placed self.now) None) (λ e. (k : ℕ) × (told e ≡ (15, k)) × FirstLate (B.bound arbiter.now) (state_of_placed self.now) (Some k)) }
     {
+        // a match as in `Timing::new`, of another refusal: one function for both would be told which by a closure
         match self.first_late(arbiter) {
             Some(task) => Err(Refusal::Late { task }),
             None => Ok(()),

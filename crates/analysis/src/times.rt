@@ -19,7 +19,7 @@ impl TaskAt<'_> {
         ensures { TimeIs (B.bound arbiter.now) (state_of_placed self.now.placed) self.now.i result }
     {
         let task = self.examine()?;
-        // the steps of `first_late` once more, which is left from inside of them
+        // the steps of `first_late` once more: there, loops left from inside are what this product is asked to have
         let last = task.limit.get();
         let mut t = task.start();
         while t <= last {
@@ -38,7 +38,7 @@ impl Placed<'_> {
     pub fn times<B: Arbiter>(&self, out: &mut [Picos], arbiter: &B) -> Result<(), Refusal>
         ensures { Times (B.bound arbiter.now) (state_of_placed self.now) out.old result out.new }
     {
-        // 0 stands for no time in every buffer of times and in every listing
+        // 0 and no `Option`: these buffers cross to C and stand in listings, where 0 is no time
         fill(out, self.tables.tasks().len(), |i| {
             self.at(i).response(arbiter).unwrap_or(Picos::NONE)
         })

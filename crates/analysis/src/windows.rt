@@ -11,7 +11,7 @@ use terms::refusal::Refusal;
 
 impl Placed<'_> {
     /// The largest time of the tasks of a partition; 0 where there is none or one of them has none.
-    // 0 stands for no time, as in every buffer of times
+    // 0 and no `Option`, as in every buffer of times; a loop, since it ends at the first task that has no time
     fn window<B: Arbiter>(&self, partition: usize, arbiter: &B) -> Picos
         ensures { Window (B.bound arbiter.now) (state_of_placed self.now) partition result }
     {

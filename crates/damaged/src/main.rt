@@ -16,16 +16,18 @@ fn answer(heap: Global, file: &[u8]) -> Result<Answer, AllocError> {
     Ok(Tables::read(Room::reserve(heap)?, file).map(|_| ()))
 }
 
+/// Turns a bit of a file, if it has it.
+fn turn(file: &mut [u8], bit: usize) {
+    if let Some(byte) = file.get_mut(bit / 8) {
+        *byte ^= 128 >> (bit % 8);
+    }
+}
+
 /// What becomes of a file with one bit turned; bit 0 is the highest of the first byte. The file is then as it was.
 fn answer_turned(heap: Global, file: &mut [u8], bit: usize) -> Result<Answer, AllocError> {
-    let turn = 128 >> (bit % 8);
-    if let Some(byte) = file.get_mut(bit / 8) {
-        *byte ^= turn;
-    }
+    turn(file, bit);
     let next = answer(heap, file)?;
-    if let Some(byte) = file.get_mut(bit / 8) {
-        *byte ^= turn;
-    }
+    turn(file, bit);
     Ok(next)
 }
 

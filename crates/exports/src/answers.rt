@@ -6,7 +6,8 @@ use super::answer::Answer;
 use terms::refusal::Refusal;
 
 /// A buffer that numbers are added to, from its front on; past its end they are lost.
-// the buffer is lent by the C side, and does not grow
+// the buffer is lent by the C side, and does not grow; it is written by index, since what is written through `get_mut` is
+// not known afterwards
 #[derive(Drop)]
 pub(crate) struct Answers<'a> {
     out: &'a mut [u64],

@@ -25,8 +25,8 @@ pub extern "C" fn station_check(
 ) -> Answer
     ensures { CheckAnswer file.now allocation.now out.old result out.new }
 {
-    match Room::reserve(heap) {
-        Ok(room) => check_in(room, file, allocation, out),
-        Err(_) => Answer::no_memory(),
-    }
+    let Ok(room) = Room::reserve(heap) else {
+        return Answer::no_memory();
+    };
+    check_in(room, file, allocation, out)
 }

@@ -24,6 +24,7 @@ pub(crate) enum Kind {
 impl TryFrom<u8> for Kind {
     type Error = NoCode;
 
+    // case by case: `as` leads from a case to its number, and nothing leads back
     fn try_from(byte: u8) -> Result<Kind, NoCode> {
         match byte {
             0 => Ok(Kind::RequestDriven),

@@ -21,10 +21,10 @@ fn read_in(room: Room, file: &[u8]) -> Answer
 pub extern "C" fn station_read(heap: Global, file: &[u8]) -> Answer
     ensures { ReadAnswer file.now result }
 {
-    match Room::reserve(heap) {
-        Ok(room) => read_in(room, file),
-        Err(_) => Answer::no_memory(),
-    }
+    let Ok(room) = Room::reserve(heap) else {
+        return Answer::no_memory();
+    };
+    read_in(room, file)
 }
 
 /// Adds all that tables say: the number of cores, and of each kind of row how many there are and the fields of each.

@@ -63,6 +63,7 @@ enum Head {
 impl TryFrom<u8> for Head {
     type Error = NoCode;
 
+    // case by case, as for `Kind`
     fn try_from(byte: u8) -> Result<Head, NoCode> {
         match byte {
             1 => Ok(Head::Adopt),

@@ -18,6 +18,7 @@ impl Plan {
         ensures { Played (B.bound arbiter.now) (state_of self.old) change.now result (state_of self.new) }
     {
         let verdict = self.change(change, arbiter);
+        // an array, as an outcome holds it
         let mut times = [Picos::NONE; 64];
         let _ = self.times(&mut times, arbiter);
         Outcome { verdict, times }

@@ -29,9 +29,10 @@ impl Plan {
             return Err(Refusal::NoTask { task });
         }
         let timing = Timing::new(numbers)?;
-        let Some(former) = self.tables.retime(task, timing) else {
-            return Err(Refusal::NoTask { task });
-        };
+        let former = self
+            .tables
+            .retime(task, timing)
+            .ok_or(Refusal::NoTask { task })?;
         let placed = Placed::new(&self.tables, &self.placement);
         if let Err(late) = placed.in_time(arbiter) {
             undo(&mut self.tables, task, former);

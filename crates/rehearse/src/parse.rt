@@ -12,10 +12,7 @@ fn numbers<const N: usize>(words: &mut Pieces) -> Option<[u64; N]> {
     for n in numbers.iter_mut() {
         *n = number(words.next()?)?;
     }
-    match words.next() {
-        Some(_) => None,
-        None => Some(numbers),
-    }
+    words.next().is_none().then_some(numbers)
 }
 
 /// The allocation whose entries the words say, where each says one.

@@ -64,12 +64,10 @@ fn add_counts(text: &mut Vec<u8>, log: &[Outcome]) -> Result<(), AllocError> {
 
 /// Adds the listing of the last plan: a line for each task.
 fn add_listing(text: &mut Vec<u8>, times: &Times) -> Result<(), AllocError> {
-    // a listing is written into a lent buffer
+    // a listing is written into a lent buffer: what asks for a plan's times asks for no memory
     let mut listing = [0; LONG_ENOUGH];
-    match write_listing(times, &mut listing) {
-        Ok(length) => text.extend_from_slice(&listing[0..length]),
-        Err(_) => Ok(()),
-    }
+    let length = write_listing(times, &mut listing).unwrap();
+    text.extend_from_slice(&listing[..length])
 }
 
 /// What is printed of a rehearsal: what became of each change, how many were accepted and refused, and the listing.

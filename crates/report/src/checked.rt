@@ -14,7 +14,8 @@ use tables::room::Room;
 use terms::numbers::Picos;
 use terms::refusal::Refusal;
 
-// `listing`, `check_text` and `write_listing` are called by themselves, so each says when it succeeds, in the same words
+// `listing`, `check_text` and `write_listing` are called by themselves, so each says when it succeeds and that its answer
+// fits the buffer: a type for the answer would have to be taken apart by every caller
 /// Writes one line for each task of a plan, its number and its time, or 0, into the front of a buffer, and tells their
 /// length; refuses a buffer that is too short, and then writes nothing.
 pub fn listing<B: Arbiter>(plan: &Plan, out: &mut [u8], arbiter: &B) -> Result<usize, Refusal>

@@ -33,6 +33,7 @@ impl Text for Times {
     #[tactic(auto, using(crate::proofs::Rows::length_row))]
     fn length(&self) -> usize {
         let times = self.as_slice();
+        // a loop: of the sum of a chain neither its bound nor the length was proved
         let mut needed = 0;
         for (k, time) in times.iter().enumerate() {
             needed += row(k, *time).length();

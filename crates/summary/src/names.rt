@@ -11,10 +11,7 @@ pub(crate) struct Name<'a>(&'a [u8]);
 
 impl fmt::Display for Name<'_> {
     fn fmt<W: fmt::Write>(&self, f: &mut fmt::Formatter<W>) -> fmt::Result {
-        match str::from_utf8(self.0) {
-            Ok(text) => f.write_str(text),
-            Err(_) => Ok(()),
-        }
+        f.write_str(str::from_utf8(self.0).unwrap_or(""))
     }
 }
 
