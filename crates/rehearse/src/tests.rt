@@ -1,9 +1,14 @@
 //! Lines, readable and not, and whole texts.
 use super::parse::change;
 use super::script::Script;
+use super::transcript::transcript;
 use plan::change::Change;
+use plan::outcome::Outcome;
+use report::times::Times;
 use std::alloc::{AllocError, Global};
 use std::test::Fail;
+use terms::numbers::Picos;
+use terms::refusal::Refusal;
 
 /// Whether a line says a change.
 fn reads(line: &[u8], heap: Global) -> Result<bool, AllocError> {
@@ -109,5 +114,21 @@ fn one_too_many(rt: HostRuntime) -> Result<(), Fail> {
     let script = Script::read(text.as_slice(), heap)?;
     assert_eq!(rt; script.changes.len(), 1024);
     assert_eq!(rt; script.unread, Some(1025));
+    Ok(())
+}
+
+#[test]
+fn a_line_that_cannot_be_read(rt: HostRuntime) -> Result<(), Fail> {
+    let heap = rt.alloc();
+    let script = Script::read(b"withdraw 1\n\nplace 7\nwithdraw 2\n", heap)?;
+    let outcome = Outcome {
+        verdict: Err(Refusal::NotPlaced { partition: 1 }),
+        times: [Picos::NONE; 64],
+    };
+    let times = Times::new([Picos::NONE; 64], 1);
+    let text = transcript(&script, &[outcome], &times, heap)?;
+    let lines = b"1 refused 12 at 1\n3 cannot be read\nplayed 1, accepted 0, refused 1\n\
+        refused 12: 1 times\n0 0\n";
+    assert!(rt; text.as_slice() == lines.as_slice());
     Ok(())
 }
