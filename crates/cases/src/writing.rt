@@ -1,11 +1,11 @@
 //! Numbers, a listing and a refusal, written and read as bytes.
 use report::digits::write_number;
-use report::input::read_at_most;
+use report::input::{first_bytes, read_at_most};
 use report::listing::write_listing;
 use report::refused::write_refusal;
 use report::times::Times;
 use std::test::Fail;
-use terms::numbers::Picos;
+use terms::numbers::{DelayPerRequest, Picos, Requests};
 use terms::refusal::Refusal;
 
 /// Whether this text was written into a buffer of points, and nothing behind it.
@@ -56,6 +56,30 @@ fn a_missing_file(rt: HostRuntime) -> Result<(), Fail> {
     assert_eq!(rt; read_at_most(&rt, "there-is-no-such-file", &mut out)?, 0);
     assert!(rt; out == [b'.'; 4]);
     Ok(())
+}
+
+#[test]
+fn the_first_bytes_of_a_missing_file(rt: HostRuntime) -> Result<(), Fail> {
+    assert!(rt; first_bytes(&rt, "there-is-no-such-file", 4)?.is_empty());
+    Ok(())
+}
+
+#[test]
+fn amounts(rt: HostRuntime) -> Result<(), Fail> {
+    let time = format!(in rt.alloc(); "{:?}", Picos::new(5))?;
+    assert!(rt; time.as_str() == "Picos(5)");
+    let count = format!(in rt.alloc(); "{:?}", Requests::new(6))?;
+    assert!(rt; count.as_str() == "Requests(6)");
+    let delay = format!(in rt.alloc(); "{:?}", DelayPerRequest::new(7))?;
+    assert!(rt; delay.as_str() == "DelayPerRequest(7)");
+    Ok(())
+}
+
+#[test]
+fn none(rt: HostRuntime) {
+    assert!(rt; Picos::NONE == Picos::new(0));
+    assert!(rt; Requests::NONE == Requests::new(0));
+    assert!(rt; DelayPerRequest::NONE == DelayPerRequest::new(0));
 }
 
 #[test]

@@ -38,6 +38,10 @@ module _ (test : ℕ → Bool) where
   pub sum_left : (f : ℕ → ℕ) (k s z : ℕ) → s ≡ sum_where k test f → test k ≡ false → z ≡ s → z ≡ sum_where (k + 1) test f
   sum_left f k s z e t is = is ∙ e ∙ sym (sum_no f k t)
 
+  -- the loop is through
+  pub sum_all : (f : ℕ → ℕ) (k n s : ℕ) → s ≡ sum_where k test f → k ≤ n → n ≤ k → s ≡ sum_where n test f
+  sum_all f k n s e below above = let same : k ≡ n = omega arith in rw (← same) e
+
 -- the sum rises, under tests that agree
 pub sum_rises : (d e : ℕ → Bool) (f g : ℕ → ℕ) (n : ℕ) → d ≡ e → ((k : ℕ) → k < n → f k ≤ g k) → sum_where n d f ≤ sum_where n e g
 sum_rises d e f g n same h = rw same (sum_mono e f g n h)

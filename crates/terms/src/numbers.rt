@@ -1,12 +1,19 @@
 //! Times, counts of requests, and the delay per request that turns a count into a time.
 ghost use Rattle.std.specs.Prelude.{◌≡◌, ◌+◌, ◌*◌, ◌^◌, ◌<◌};
 
+use std::fmt;
 use std::marker::PhantomData;
 use std::ops::{Add, AddAssign};
 
 /// So much of a unit `U`: a number that only numbers of the same unit are added to.
-#[derive(Clone, Copy, Debug, PartialEq, Eq, PartialOrd, Ord)]
+#[derive(Clone, Copy, PartialEq, Eq, PartialOrd, Ord)]
 pub struct Amount<U>(u64, PhantomData<U>);
+
+/// A unit.
+pub trait Unit {
+    /// What amounts of it are called where they are shown.
+    const AMOUNT: &'static str;
+}
 
 /// The unit of times.
 #[derive(Clone, Copy, Debug, PartialEq, Eq, PartialOrd, Ord)]
@@ -20,6 +27,18 @@ pub struct Request;
 #[derive(Clone, Copy, Debug, PartialEq, Eq, PartialOrd, Ord)]
 pub struct PicosecondPerRequest;
 
+impl Unit for Picosecond {
+    const AMOUNT: &'static str = "Picos";
+}
+
+impl Unit for Request {
+    const AMOUNT: &'static str = "Requests";
+}
+
+impl Unit for PicosecondPerRequest {
+    const AMOUNT: &'static str = "DelayPerRequest";
+}
+
 /// A time in picoseconds.
 pub type Picos = Amount<Picosecond>;
 
@@ -28,6 +47,13 @@ pub type Requests = Amount<Request>;
 
 /// The longest that one request waits, in picoseconds.
 pub type DelayPerRequest = Amount<PicosecondPerRequest>;
+
+// not derived: with `{:?}` an amount is shown by the name of its own type, and not as an `Amount` of a phantom
+impl<U: Unit> fmt::Debug for Amount<U> {
+    fn fmt<W: fmt::Write>(&self, f: &mut fmt::Formatter<W>) -> fmt::Result {
+        f.debug_tuple(U::AMOUNT).field(&self.0).finish()
+    }
+}
 
 impl<U> Amount<U> {
     /// So many of the unit.
