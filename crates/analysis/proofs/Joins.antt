@@ -31,6 +31,17 @@ across_zip p q None b = refl
 across_zip p q (Some a) None = refl
 across_zip p q (Some a) (Some b) = refl
 
+-- two values together, where both are there, or one is not
+pub zip_both : {A B : Type 0} (x : Option A) (y : Option B) (a : A) (b : B) → x ≡ Some a → y ≡ Some b → option_zip x y ≡ Some (a, b)
+zip_both x y a b e f = rw (e, f) refl
+
+pub zip_first : {A B : Type 0} (x : Option A) (y : Option B) → x ≡ None → option_zip x y ≡ None
+zip_first x y e = rw e refl
+
+pub zip_second : {A B : Type 0} (x : Option A) (y : Option B) → y ≡ None → option_zip x y ≡ None
+zip_second None y e = refl
+zip_second (Some a) y e = rw e refl
+
 module _ (cores : List (Option Core)) (links : List Link) (k : ℕ) (within : k < length links) where
   abbrev l : Link
   l = get_or links k no_link

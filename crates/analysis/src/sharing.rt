@@ -12,10 +12,9 @@ pub(crate) fn joined_by(links: &[Link], placement: &Placement) -> Sharing
 {
     let mut sharing = Sharing::NONE;
     for link in links {
-        let ends = placement
-            .core_of(link.first)
-            .zip(placement.core_of(link.second));
-        if let Some((a, b)) = ends {
+        if let Some(a) = placement.core_of(link.first)
+            && let Some(b) = placement.core_of(link.second)
+        {
             sharing.join(a, b);
         }
     }
