@@ -9,6 +9,7 @@ use super::plan::Plan;
 use analysis::placed::Placed;
 use analysis::times::limit_at;
 use arbiter::arbiter::Arbiter;
+use terms::checks::fits;
 use terms::numbers::Picos;
 use terms::refusal::Refusal;
 
@@ -41,6 +42,8 @@ impl Plan {
     pub fn times<B: Arbiter>(&self, out: &mut [Picos], arbiter: &B) -> Result<(), Refusal>
         ensures { Times (B.bound arbiter.now) (state_of self.now) out.old result out.new }
     {
+        // refused before it is worked out which cores share
+        fits(self.task_count(), out.len())?;
         Placed::new(&self.tables, &self.placement).times(out, arbiter)
     }
 
@@ -49,6 +52,8 @@ impl Plan {
     pub fn windows<B: Arbiter>(&self, out: &mut [Picos], arbiter: &B) -> Result<(), Refusal>
         ensures { Windows (B.bound arbiter.now) (state_of self.now) out.old result out.new }
     {
+        // refused first, as the times are
+        fits(self.tables.partitions().len(), out.len())?;
         Placed::new(&self.tables, &self.placement).windows(out, arbiter)
     }
 }
