@@ -7,13 +7,13 @@ use Rattle.report.proofs.Puts.{put_byte, put_more}
 
 module _ (before : List ℕ) (n : ℕ) (between : List ℕ) (m : ℕ) where
   -- the line without its end
-  abbrev both : List ℕ
+  abbrev pub both : List ℕ
   both = (before ++ decimal n) ++ (between ++ decimal m)
 
-  ended : both ++ 10 ∷ [] ≡ two_numbers before n between m
+  pub ended : both ++ 10 ∷ [] ≡ two_numbers before n between m
   ended = ap (λ xs. xs ++ 10 ∷ []) (sym (append_assoc (before ++ decimal n) between (decimal m)))
 
-  room_end : (old : List ℕ) → length (two_numbers before n between m) ≤ length old → length both < length old
+  pub room_end : (old : List ℕ) → length (two_numbers before n between m) ≤ length old → length both < length old
   room_end old room = omega (arith, ap length ended, length_push both 10)
 
   -- the second number behind the first, in the rest of the buffer, and the end of the line behind both
