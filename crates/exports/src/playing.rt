@@ -105,6 +105,7 @@ struct Player<'a, B> {
 
 impl<'a, B: Arbiter> Player<'a, B> {
     /// Makes a step, and adds what it answers.
+    #[inline(always)]
     fn make(&mut self, step: Step, answers: &mut Answers) {
         match step {
             Step::Adopt { entries } => answers.verdict(self.plan.adopt(entries, self.arbiter)),

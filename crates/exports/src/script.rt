@@ -57,6 +57,7 @@ impl<'a> Script<'a> {
 
     // as the words of a line are read in `rehearse`, but of bytes, and there is no more to look at behind them
     /// The next numbers.
+    #[inline(always)]
     pub(crate) fn numbers<const N: usize>(&mut self) -> Option<[u64; N]> {
         let mut numbers = [0; N];
         for n in numbers.iter_mut() {

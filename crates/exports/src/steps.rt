@@ -106,7 +106,9 @@ pub(crate) enum Step<'a> {
     Ask(Question),
 }
 
+// inlined, here and where a script is read and played: a step is then made in place, and not copied from call to call
 /// Which cores share, by the bits of a byte, the least for 0-1, then 0-2, 0-3, 1-2, 1-3 and 2-3.
+#[inline(always)]
 fn sharing_by(bits: u8) -> Sharing {
     let mut sharing = Sharing::NONE;
     let pairs = [
@@ -117,9 +119,9 @@ fn sharing_by(bits: u8) -> Sharing {
         (Core::One, Core::Three),
         (Core::Two, Core::Three),
     ];
-    for (k, (a, b)) in pairs.into_iter().enumerate() {
+    for (k, (a, b)) in pairs.iter().enumerate() {
         if bits & (1 << k as u32) != 0 {
-            sharing.join(a, b);
+            sharing.join(*a, *b);
         }
     }
     sharing
@@ -127,6 +129,7 @@ fn sharing_by(bits: u8) -> Sharing {
 
 impl<'a> Script<'a> {
     /// The next step.
+    #[inline(always)]
     pub(crate) fn step(&mut self) -> Option<Step<'a>> {
         match Head::try_from(self.byte()?).ok()? {
             Head::Adopt => self.adopt(),
@@ -145,6 +148,7 @@ impl<'a> Script<'a> {
     }
 
     /// An allocation: how many entries, and the entries.
+    #[inline(always)]
     fn adopt(&mut self) -> Option<Step<'a>> {
         let length = usize::from(self.byte()?);
         let entries = self.take(length)?;
@@ -152,24 +156,28 @@ impl<'a> Script<'a> {
     }
 
     /// A partition, and a core for it.
+    #[inline(always)]
     fn placing(&mut self) -> Option<(usize, usize)> {
         let [partition, core] = self.numbers::<2>()?;
         Some((partition as usize, core as usize))
     }
 
     /// A placement.
+    #[inline(always)]
     fn place(&mut self) -> Option<Change> {
         let (partition, core) = self.placing()?;
         Some(Change::Place { partition, core })
     }
 
     /// A withdrawal: the partition.
+    #[inline(always)]
     fn withdraw(&mut self) -> Option<Change> {
         let partition = self.number()? as usize;
         Some(Change::Withdraw { partition })
     }
 
     /// Other numbers for a task: the task, a period, a deadline, four execution times and four counts of requests.
+    #[inline(always)]
     fn retime(&mut self) -> Option<Change> {
         let task = self.number()? as usize;
         let numbers = Numbers::from(self.numbers::<10>()?);
@@ -177,24 +185,28 @@ impl<'a> Script<'a> {
     }
 
     /// What a trial is of.
+    #[inline(always)]
     fn trial(&mut self) -> Option<Asked> {
         let (partition, core) = self.placing()?;
         Some(Asked::Trial { partition, core })
     }
 
     /// A question for times: the length of the buffer.
+    #[inline(always)]
     fn fill(&mut self, asked: Asked) -> Option<Step<'a>> {
         let length = Length::try_from(u64::from(self.byte()?)).ok()?;
         Some(Step::Fill { asked, length })
     }
 
     /// The listing: the length of the buffer.
+    #[inline(always)]
     fn list(&mut self) -> Option<Step<'a>> {
         let length = Length::try_from(self.number()?).ok()?;
         Some(Step::List { length })
     }
 
     /// A question to the arbiter: the core, the sharing, the time, the own count and the four others.
+    #[inline(always)]
     fn question(&mut self) -> Option<Question> {
         let core = Core::try_from(usize::from(self.byte()?)).ok()?;
         let sharing = sharing_by(self.byte()?);
