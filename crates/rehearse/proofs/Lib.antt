@@ -1,3 +1,3 @@
 mod Cuts
-mod Digits
 mod Lines
+mod Reading

