@@ -88,6 +88,9 @@ fn main(rt: HostRuntime) -> anyhow::Result<()> {
     show_all(&rt, "prefix", bytes.len(), |n| {
         answer(heap, bytes.get(..n).unwrap_or(&[]))
     })?;
-    let last = bytes.len().saturating_mul(8).saturating_sub(1);
-    show_all(&rt, "bit", last, |bit| answer_turned(heap, bytes, bit))
+    match bytes.len().saturating_mul(8).checked_sub(1) {
+        Some(last) => show_all(&rt, "bit", last, |bit| answer_turned(heap, bytes, bit)),
+        // an empty file has no bit to turn: no refusal has the number 0
+        None => Ok(println!(rt; "bit 0-0: refused 0 at 0")?),
+    }
 }

@@ -3,7 +3,7 @@
 #![tactic(auto)]
 
 use anyhow::Context;
-use std::{fs, str};
+use std::fs;
 use tables::held::Tables;
 use tables::room::Room;
 
@@ -12,10 +12,22 @@ fn word(line: &str) -> anyhow::Result<(&str, &str)> {
     line.split_once(' ').context("a line ends too early")
 }
 
+/// What a hexadecimal digit tells; anything else counts as 0, and none is in upper case.
+// by cases: `from_str_radix` and `to_digit` read upper case too
+fn digit(byte: u8) -> u8 {
+    match byte {
+        b'0'..=b'9' => byte - b'0',
+        b'a'..=b'f' => byte - b'a' + 10,
+        _ => 0,
+    }
+}
+
 /// Adds the bytes that hexadecimal digits tell, two digits a byte.
 fn add_bytes(file: &mut Vec<u8>, hex: &str) -> anyhow::Result<()> {
     for digits in hex.as_bytes().chunks_exact(2) {
-        file.push(u8::from_str_radix(str::from_utf8(digits)?, 16)?)?;
+        if let [high, low] = digits {
+            file.push(digit(*high).wrapping_mul(16) | digit(*low))?;
+        }
     }
     Ok(())
 }
